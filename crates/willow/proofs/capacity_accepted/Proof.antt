@@ -1,0 +1,14 @@
+use Rattle.willow.proofs.capacity_accepted.Statement.{statement}
+use Rattle.willow.proofs.capacity_accepted.Tie as tie
+use Rattle.willow.proofs.capacity_accepted.Reads as reads
+use Rattle.willow.proofs.capacity_accepted.Lts as lts
+use Rattle.willow.specs.Limits.{acceptedCapacity}
+use mathlib.Core.Path.{refl}
+
+-- src/lib.rt:108:1
+returns : tie.Need-returns
+unfolding acceptedCapacity
+returns c = refl
+
+pub capacity-accepted-spec : {M : Type 1} → statement M
+capacity-accepted-spec = tie.close (tie.spec returns)

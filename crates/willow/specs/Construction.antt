@@ -1,0 +1,81 @@
+-- Paths made from parts: `from_slices` and what follows its rules.
+use Prim.Native.Nat.{ℕ, zero, suc, _+_, _*_, _/_, _%_, _≤_, _<_}
+use mathlib.Core.Path.{_≡_}
+use mathlib.Core.Logic.{_↔_}
+use mathlib.Core.List.{List, [], _∷_, _++_, map}
+use mathlib.Core.Bool.{Bool, true, false, _&&_, cond}
+use lib.Dec.{ltb, eqb}
+use lib.ListN.{length, take, drop}
+use Rattle.willow.specs.declared.Limits.{Limits}
+use Rattle.willow.specs.declared.Refusal.the-variants.{BadLengths, PathTooLong, TooManyComponents, ComponentTooLong}
+use Rattle.willow.specs.Refusals.{Outcome, refused, value}
+use Rattle.willow.specs.Lists.{In, All, any}
+use Rattle.willow.specs.Numbers.{Bytes, unle}
+use Rattle.willow.specs.Packed.{joined}
+use Rattle.willow.specs.Paths.{Component, Path, pathLength, Valid}
+
+-- "`from_slices` is the reference for construction with refusals 7, 8, 9 in that order." What is asked of the components of
+-- a path that is made, however it is made:
+unfoldable pub admitted : Limits → Path → Outcome Path
+admitted L p =
+    cond (ltb (L .mpl) (pathLength p)) (refused PathTooLong)
+    (cond (ltb (L .mcc) (length p)) (refused TooManyComponents)
+    (cond (any (λ c. ltb (L .mcl) (length c)) p) (refused ComponentTooLong)
+    (value p)))
+
+-- Lengths are lent as a buffer of 8-byte numbers. The first k of them:
+abbrev pub numbers : ℕ → List ℕ → List ℕ
+numbers zero s = []
+numbers (suc k) s = unle (take 8 s) ∷ numbers k (drop 8 s)
+
+unfoldable pub lengthsIn : List ℕ → List ℕ
+lengthsIn s = numbers (length s / 8) s
+
+abbrev pub total : List ℕ → ℕ
+total [] = 0
+total (n ∷ ns) = n + total ns
+
+-- Refusal 6: "component lengths do not add up to the bytes lent with them". The sum is one of whole numbers; a buffer whose
+-- length is no multiple of 8 holds no such lengths.
+unfoldable pub lengthsFit : List ℕ → List ℕ → Bool
+lengthsFit lengths bytes = eqb (length lengths % 8) 0 && eqb (total (lengthsIn lengths)) (length bytes)
+
+-- The bytes, cut into components of these lengths.
+abbrev pub cut : List ℕ → List ℕ → Path
+cut [] bytes = []
+cut (n ∷ ns) bytes = take n bytes ∷ cut ns (drop n bytes)
+
+unfoldable pub fromSlices : Limits → List ℕ → List ℕ → Outcome Path
+fromSlices L lengths bytes = cond (lengthsFit lengths bytes) (admitted L (cut (lengthsIn lengths) bytes)) (refused BadLengths)
+
+-- `append` and `append_slice`: the same rules, of the whole new path.
+unfoldable pub append : Limits → Path → Component → Outcome Path
+append L p c = admitted L (p ++ (c ∷ []))
+
+unfoldable pub appendSlice : Limits → Path → List ℕ → List ℕ → Outcome Path
+appendSlice L p lengths bytes = cond (lengthsFit lengths bytes) (admitted L (p ++ cut (lengthsIn lengths) bytes)) (refused BadLengths)
+
+-- WHAT IS MEANT: each answer exactly if its own condition holds and none that is tested before it. The premise says that the
+-- components are made of bytes, as those of every lent buffer are.
+abbrev pub SomeTooLong : Limits → Path → Type 0
+SomeTooLong L p = (c : Component) × In c p × (L .mcl < length c)
+
+pub record Admission (L : Limits) (p : Path) : Type 0 where
+  pub path-too-long : (admitted L p ≡ refused PathTooLong) ↔ (L .mpl < pathLength p)
+  pub too-many-components : (admitted L p ≡ refused TooManyComponents) ↔ ((pathLength p ≤ L .mpl) × (L .mcc < length p))
+  pub component-too-long : (admitted L p ≡ refused ComponentTooLong)
+      ↔ ((pathLength p ≤ L .mpl) × (length p ≤ L .mcc) × SomeTooLong L p)
+  pub valid : (q : Path) → (admitted L p ≡ value q) ↔ ((q ≡ p) × Valid L p)
+
+-- The components that lengths and bytes stand for: their lengths are those, and joined they are the bytes.
+pub record Slices (lengths bytes : List ℕ) (p : Path) : Type 0 where
+  pub sizes : map length p ≡ lengthsIn lengths
+  pub content : joined p ≡ bytes
+
+-- There are no such components exactly if refusal 6 is given; else there is one list of them, and it is judged by `admitted`.
+pub record Construction : Type 0 where
+  pub admission : (L : Limits) (p : Path) → All Bytes p → Admission L p
+  pub slices : (lengths bytes : List ℕ) → (lengthsFit lengths bytes ≡ true)
+      ↔ ((length lengths % 8 ≡ 0) × Slices lengths bytes (cut (lengthsIn lengths) bytes))
+  pub only : (lengths bytes : List ℕ) (p : Path) → Slices lengths bytes p → p ≡ cut (lengthsIn lengths) bytes
+  pub bytes-kept : (lengths bytes : List ℕ) → Bytes bytes → All Bytes (cut (lengthsIn lengths) bytes)

@@ -1,0 +1,17 @@
+pub mod Orders
+pub mod Lists
+pub mod Numbers
+pub mod Limits
+pub mod Refusals
+pub mod Paths
+pub mod Packed
+pub mod LeastPaths
+pub mod Construction
+pub mod Entries
+pub mod Ranges
+pub mod Areas
+pub mod Ranges3d
+pub mod AreasOfInterest
+pub mod Store
+pub mod Demand3
+pub mod MarkedCases
