@@ -1,2 +1,5 @@
 pub mod Bools
 pub mod OrderLaws
+pub mod PathLaws
+pub mod LeastPathLaws
+pub mod EntryLaws

@@ -8,6 +8,7 @@ use lib.Dec.{eqb}
 use lib.ListN.{length}
 use Rattle.willow.specs.declared.Limits.{Limits}
 use Rattle.willow.specs.declared.Order.{Order}
+use Rattle.willow.specs.declared.Order.the-variants.{Less}
 use Rattle.willow.specs.Limits.{maxWord}
 use Rattle.willow.specs.Numbers.{Bytes}
 use Rattle.willow.specs.Orders.{isGreater, isEqual, Total, Decides, compareNumbers, compareLists, comparePairs, ListBelow, PairBelow}
@@ -100,5 +101,5 @@ pub record EntryLaws : Type 0 where
   pub prunes-transitive : (a b c : Entry) → Prunes a b → Prunes b c → Prunes a c
   pub same-means : (a b : Entry) → (sameEntry a b ≡ true) ↔ (a ≡ b)
   pub places-total : Total (comparePairs compareNumbers comparePaths)
-  pub places-means : (a b : Entry) → (comparePlaces a b ≡ Order.Less) ↔ PlaceBelow a b
+  pub places-means : (a b : Entry) → (comparePlaces a b ≡ Less) ↔ PlaceBelow a b
   pub entries-total : Total compareEntries

@@ -22,8 +22,8 @@ abbrev pub GreaterNotPrefixed : Limits → Path → Path → Type 0
 GreaterNotPrefixed L p r = Valid L r × PathBelow p r × (Prefix p r → ⊥)
 
 -- `successor`: "the least valid path above p".
-abbrev pub Greater : Limits → Path → Path → Type 0
-Greater L p r = Valid L r × PathBelow p r
+abbrev pub GreaterPath : Limits → Path → Path → Type 0
+GreaterPath L p r = Valid L r × PathBelow p r
 
 -- WHAT IS COMPUTED, in document 01's words: "From the last component back, a component is lengthened by a zero byte if it is
 -- below MCL and the accumulated length is below MPL; else it is cut after its last byte below ff and that byte raised. Where
@@ -73,7 +73,7 @@ greatest L = filled (L .mcl) (L .mcc) (L .mpl)
 -- and below the next greater path of p, where there is one. Its premise is a valid path, as the empty one.
 pub record LeastPaths (L : Limits) : Type 0 where
   pub next-greater : (p : Path) → Valid L p → Least (GreaterNotPrefixed L p) (nextGreater L p)
-  pub least-successor : (p : Path) → Valid L p → Least (Greater L p) (successor L p)
+  pub least-successor : (p : Path) → Valid L p → Least (GreaterPath L p) (successor L p)
   pub greatest-valid : Valid L (greatest L)
   pub greatest-above : (r : Path) → Valid L r → AtMost PathBelow r (greatest L)
   pub prefix-range : (p q : Path) → Valid L p → Valid L q
