@@ -51,3 +51,21 @@ decided {P} b d = go (bool-cases b)
     go : (b ≡ true) ⊎ (b ≡ false) → P ⊎ (P → ⊥)
     go (inl e) = inl (d .0 e)
     go (inr e) = inr (decided-false b d .0 e)
+
+-- Tests that mean P and Q, joined.
+pub conjunction-means : {a b : Bool} {P Q : Type 0} → (a ≡ true) ↔ P → (b ≡ true) ↔ Q → (a && b ≡ true) ↔ (P × Q)
+conjunction-means {a} {b} p q = (
+  λ e. let h = both-true a b e in (p .0 (h .0), q .0 (h .1)),
+  λ h. true-both a b (p .1 (h .0)) (q .1 (h .1)),
+)
+
+pub disjunction-means : {a b : Bool} {P Q : Type 0} → (a ≡ true) ↔ P → (b ≡ true) ↔ Q → (a || b ≡ true) ↔ (P ⊎ Q)
+disjunction-means {a} {b} {P} {Q} p q = (λ e. to (either-true a b e), from)
+  where
+    to : (a ≡ true) ⊎ (b ≡ true) → P ⊎ Q
+    to (inl e) = inl (p .0 e)
+    to (inr e) = inr (q .0 e)
+
+    from : P ⊎ Q → a || b ≡ true
+    from (inl h) = true-left a b (p .1 h)
+    from (inr h) = true-right a b (q .1 h)

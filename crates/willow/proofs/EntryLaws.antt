@@ -111,7 +111,7 @@ prunes-means o e = (to, from)
     from p = rw (
       eq-eqb (o .namespace) (e .namespace) (p .namespaces),
       eq-eqb (o .subspace) (e .subspace) (p .subspaces),
-      newer-means o e .1 (p .newer)
+      newer-means o e .1 (p .newer),
     ) (prefix-means (o .path) (e .path) .1 (p .prefix))
 
 pub prunes-fails : (o e : Entry) → (prunes o e ≡ false) ↔ (Prunes o e → ⊥)

@@ -291,12 +291,12 @@ module _ (L : Limits) where
   filled-greatest (suc k) m [] h b a e = less≢greater (sym e)
   filled-greatest (suc k) m (c ∷ cs) h b a e =
       elim (then-less (compareComponents (replicate (min (L .mcl) m) 255) c) (comparePaths (filled (L .mcl) k (m - min (L .mcl) m)) cs) e) [
-      | inl x ↦ ff-greatest (min (L .mcl) m) c (omega arith) (a .0 .1) x
-      | inr x ↦
-          let y = components-total .same (replicate (min (L .mcl) m) 255) c (x .0) in
-          let l = length-replicate {A = ℕ} (min (L .mcl) m) 255 in
-          let n : length c ≡ min (L .mcl) m = cc in
-          filled-greatest k (m - min (L .mcl) m) cs (omega arith) (omega arith) (a .1) (x .1)
+        | inl x ↦ ff-greatest (min (L .mcl) m) c (omega arith) (a .0 .1) x
+        | inr x ↦
+            let y = components-total .same (replicate (min (L .mcl) m) 255) c (x .0) in
+            let l = length-replicate {A = ℕ} (min (L .mcl) m) 255 in
+            let n : length c ≡ min (L .mcl) m = cc in
+            filled-greatest k (m - min (L .mcl) m) cs (omega arith) (omega arith) (a .1) (x .1)
       ]
 
   greatest-valid : Valid L (greatest L)
@@ -333,8 +333,8 @@ module _ (L : Limits) where
               h q (w, b, prefix-fails p q .0 n)
           go (some g) e =
               elim (found g e .1 q (w, b, prefix-fails p q .0 n)) [
-              | inl k ↦ below-irreflexive comparePaths PathBelow paths-decided q (rw k at (f g e))
-              | inr k ↦ below-asymmetric comparePaths PathBelow paths-decided q g (f g e) k
+                | inl k ↦ below-irreflexive comparePaths PathBelow paths-decided q (rw k at (f g e))
+                | inr k ↦ below-asymmetric comparePaths PathBelow paths-decided q g (f g e) k
               ]
 
       within : AtMost PathBelow p q × ((g : Path) → nextGreater L p ≡ some g → PathBelow q g) → PathBelow p q ⊎ ((p ≡ q) ⊎ PathBelow q p) → Prefix p q

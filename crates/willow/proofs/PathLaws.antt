@@ -158,8 +158,8 @@ prefixes-related (c ∷ cs) (d ∷ ds) (f ∷ fs) a b =
     let k : cs ++ a .0 ≡ fs = cc in
     let l : ds ++ b .0 ≡ fs = cc in
     elim (prefixes-related cs ds fs (a .0, k) (b .0, l)) [
-    | inl m ↦ let e = m .1 in inl (m .0, cc)
-    | inr m ↦ let e = m .1 in inr (m .0, cc)
+      | inl m ↦ let e = m .1 in inl (m .0, cc)
+      | inr m ↦ let e = m .1 in inr (m .0, cc)
     ]
 
 pub related-means : (p q : Path) → (isRelated p q ≡ true) ↔ Related p q
@@ -220,8 +220,8 @@ common-longest p q r a b =
     let f = taken q b in
     let k = common-means p q .largest (length r) l m (e ∙ sym f) in
     elim (prefixes-related r (commonPrefix p q) p a (take-prefix (commonCount p q) p)) [
-    | inl x ↦ x
-    | inr x ↦ back x k
+      | inl x ↦ x
+      | inr x ↦ back x k
     ]
   where
     taken : (s : Path) → Prefix r s → take (length r) s ≡ r
@@ -231,8 +231,8 @@ common-longest p q r a b =
     back x k =
         let e : take (length r) p ≡ r = taken p a in
         elim (prefix-cases compareComponents components-total (commonPrefix p q) r (prefix-means (commonPrefix p q) r .1 x)) [
-        | inl h ↦ rw h (prefix-self r)
-        | inr h ↦ let n = of-length in absurd (omega arith)
+          | inl h ↦ rw h (prefix-self r)
+          | inr h ↦ let n = of-length in absurd (omega arith)
         ]
       where
         of-length : commonCount p q ≤ length (commonPrefix p q)

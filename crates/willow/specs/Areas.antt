@@ -211,6 +211,8 @@ pub record AreaLaws (L : Limits) : Type 0 where
       → (almostIncludesArea a b ≡ true)
       ↔ (NotTwoIds (a .subspace) (b .subspace) × AreaIncluded L b (withAnySubspace a))
   pub intersected : (a b : Area) → IsAreaIntersection a b (areaIntersection a b)
+  pub intersection-valid : (a b m : Area) → ValidArea L a → ValidArea L b → areaIntersection a b ≡ some m
+      → ValidArea L m × NonEmpty _<_ (m .times)
   pub longer-stands : (a b m : Area) → areaIntersection a b ≡ some m → Prefix (a .path) (m .path) × Prefix (b .path) (m .path)
   pub prunable-if : (a : Area) (t : Triplet) → PrunesSome L (InArea a) t → areaPrunable a t ≡ true
   pub prunable-only-if : (a : Area) (t : Triplet) → ValidArea L a → ValidTriplet L t → NonEmpty _<_ (a .times)

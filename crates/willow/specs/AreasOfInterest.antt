@@ -1,10 +1,10 @@
 -- Areas of interest: an area with a count and a size.
-use Prim.Native.Nat.{ℕ, min}
+use Prim.Native.Nat.{ℕ, _≤_, min}
 use mathlib.Core.Path.{_≡_}
-use mathlib.Core.Logic.{_↔_}
+use mathlib.Core.Logic.{_⊎_}
 use mathlib.Core.Option.{Option, none, some}
 use Rattle.willow.specs.declared.Order.{Order}
-use Rattle.willow.specs.Areas.{Triplet, Area, InArea, IsAreaIntersection, fullArea, areaIntersection, compareAreas, areaKey}
+use Rattle.willow.specs.Areas.{Area, IsAreaIntersection, fullArea, areaIntersection, compareAreas}
 use Rattle.willow.specs.Orders.{Total, compareNumbers, comparePairs}
 
 pub record AreaOfInterest : Type 0 where
@@ -44,7 +44,7 @@ compareInterest a b =
 -- WHAT IS MEANT: none exactly if the areas have no triplet in common; else the intersection of the areas, and of the counts
 -- and of the sizes the smaller.
 abbrev pub Smaller : ℕ → ℕ → ℕ → Type 0
-Smaller m n k = k ≡ min m n
+Smaller m n k = ((k ≡ m) ⊎ (k ≡ n)) × (k ≤ m) × (k ≤ n)
 
 abbrev pub IsInterestIntersection : AreaOfInterest → AreaOfInterest → Option AreaOfInterest → Type 0
 IsInterestIntersection a b none = IsAreaIntersection (a .area) (b .area) none

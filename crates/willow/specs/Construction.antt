@@ -67,15 +67,23 @@ pub record Admission (L : Limits) (p : Path) : Type 0 where
       ↔ ((pathLength p ≤ L .mpl) × (length p ≤ L .mcc) × SomeTooLong L p)
   pub valid : (q : Path) → (admitted L p ≡ value q) ↔ ((q ≡ p) × Valid L p)
 
--- The components that lengths and bytes stand for: their lengths are those, and joined they are the bytes.
+-- The components that lengths and bytes stand for: the buffer of lengths is one of whole 8-byte numbers, these are the
+-- components' lengths, and the components joined are the bytes.
 pub record Slices (lengths bytes : List ℕ) (p : Path) : Type 0 where
+  pub numbers-whole : length lengths % 8 ≡ 0
   pub sizes : map length p ≡ lengthsIn lengths
   pub content : joined p ≡ bytes
 
--- There are no such components exactly if refusal 6 is given; else there is one list of them, and it is judged by `admitted`.
+-- Refusal 6 is given exactly if there are no such components; else there is one list of them, made of the bytes lent, and what
+-- is answered is what `admitted` says of it.
 pub record Construction : Type 0 where
   pub admission : (L : Limits) (p : Path) → All Bytes p → Admission L p
-  pub slices : (lengths bytes : List ℕ) → (lengthsFit lengths bytes ≡ true)
-      ↔ ((length lengths % 8 ≡ 0) × Slices lengths bytes (cut (lengthsIn lengths) bytes))
-  pub only : (lengths bytes : List ℕ) (p : Path) → Slices lengths bytes p → p ≡ cut (lengthsIn lengths) bytes
-  pub bytes-kept : (lengths bytes : List ℕ) → Bytes bytes → All Bytes (cut (lengthsIn lengths) bytes)
+  pub slices-only : (lengths bytes : List ℕ) (p q : Path) → Slices lengths bytes p → Slices lengths bytes q → p ≡ q
+  pub slices-bytes : (lengths bytes : List ℕ) (p : Path) → Bytes bytes → Slices lengths bytes p → All Bytes p
+  pub made-unless : (L : Limits) (lengths bytes : List ℕ)
+      → (fromSlices L lengths bytes ≡ refused BadLengths) ↔ ((p : Path) → Slices lengths bytes p → ⊥)
+  pub made-as : (L : Limits) (lengths bytes : List ℕ) (p : Path) → Slices lengths bytes p → fromSlices L lengths bytes ≡ admitted L p
+  pub appended-unless : (L : Limits) (p : Path) (lengths bytes : List ℕ)
+      → (appendSlice L p lengths bytes ≡ refused BadLengths) ↔ ((q : Path) → Slices lengths bytes q → ⊥)
+  pub appended-as : (L : Limits) (p : Path) (lengths bytes : List ℕ) (q : Path) → Slices lengths bytes q
+      → appendSlice L p lengths bytes ≡ admitted L (p ++ q)

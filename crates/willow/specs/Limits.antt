@@ -1,6 +1,8 @@
 -- The limits under which paths are valid, and the bounds that refusal 1 keeps.
-use Prim.Native.Nat.{ℕ, _≤_, _<_, _^_, _-_}
-use mathlib.Core.Bool.{Bool, _&&_}
+use Prim.Native.Nat.{ℕ, _≤_, _^_, _-_}
+use mathlib.Core.Path.{_≡_}
+use mathlib.Core.Logic.{_↔_}
+use mathlib.Core.Bool.{Bool, true, _&&_}
 use lib.Dec.{leb}
 use Rattle.willow.specs.declared.Limits.{Limits}
 
@@ -39,3 +41,8 @@ pub record Words (L : Limits) : Type 0 where
   pub mcl-word : L .mcl ≤ maxWord
   pub mcc-word : L .mcc ≤ maxWord
   pub mpl-word : L .mpl ≤ maxWord
+
+-- The tests are the bounds.
+pub record LimitLaws : Type 0 where
+  pub limits-means : (L : Limits) → (acceptedLimits L ≡ true) ↔ Accepted L
+  pub capacity-means : (N : ℕ) → (acceptedCapacity N ≡ true) ↔ (N ≤ maxCapacity)

@@ -133,6 +133,8 @@ pub record Range3dLaws (L : Limits) : Type 0 where
   pub range-included : (r s : Range3d) → ValidRange3d L r → ValidRange3d L s → NonEmpty3d s
       → (includesRange3d r s ≡ true) ↔ Range3dIncluded L s r
   pub intersected : (r s : Range3d) → IsIntersection3d r s (intersection3d r s)
+  pub intersection-valid : (r s m : Range3d) → ValidRange3d L r → ValidRange3d L s → intersection3d r s ≡ some m
+      → ValidRange3d L m × NonEmpty3d m
   pub prunable-means : (r : Range3d) (t : Triplet) → (range3dPrunable r t ≡ true) ↔ PrunableByRule r t
   pub prunable-if : (r : Range3d) (t : Triplet) → PrunesSome L (InRange3d r) t → range3dPrunable r t ≡ true
   pub area-triplets : (a : Area) → ValidArea L a → (t : Triplet) → ValidTriplet L t
