@@ -1,8 +1,7 @@
 -- Tests taken apart: what a conjunction, a disjunction or a negation says that is known to be true or false.
-use Prim.Native.Nat.{ℕ}
 use mathlib.Core.Path.{_≡_, refl, sym, _∙_}
 use mathlib.Core.Logic.{_⊎_, inl, inr, _↔_}
-use mathlib.Core.Bool.{Bool, true, false, _&&_, _||_, not, true≢false, false≢true}
+use mathlib.Core.Bool.{Bool, true, false, _&&_, _||_, true≢false, false≢true}
 
 pub both-true : (a b : Bool) → a && b ≡ true → (a ≡ true) × (b ≡ true)
 both-true true b e = (refl, e)

@@ -1,6 +1,6 @@
 -- Each answer of `admitted` is given exactly where its tests say, by cases on the three tests. Cutting bytes by lengths and
 -- joining the pieces are inverse, by recursion on the lengths.
-use Prim.Native.Nat.{ℕ, zero, suc, _+_, _/_, _%_, _≤_}
+use Prim.Native.Nat.{ℕ, zero, suc, _+_, _/_, _≤_}
 use mathlib.Core.Path.{_≡_, refl, sym, _∙_, ap}
 use mathlib.Core.Logic.{_↔_, Iff·trans}
 use mathlib.Core.List.{List, [], _∷_, _++_, map}

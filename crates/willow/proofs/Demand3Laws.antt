@@ -1,27 +1,27 @@
 -- Demand 3, on states. An invariant joins the state to the history: the state ascends by place, holds only what stays, and
 -- covers the history (each of its entries is held, or one held prunes it). Each answer keeps it; and a state that has it is
 -- the one that the history gives.
-use Prim.Native.Nat.{ℕ, zero, suc, _+_, _-_, _<_, _≤_}
+use Prim.Native.Nat.{ℕ, _+_, _≤_}
 use mathlib.Core.Path.{_≡_, refl, sym, _∙_, ap, subst}
 use mathlib.Core.Logic.{_⊎_, inl, inr, _↔_}
-use mathlib.Core.List.{List, [], _∷_, _++_, append-assoc, append-nil}
+use mathlib.Core.List.{List, [], _∷_, _++_}
 use mathlib.Core.Option.{Option, none, some}
-use mathlib.Core.Bool.{Bool, true, false, _||_, not, cond, true≢false, false≢true}
+use mathlib.Core.Bool.{Bool, true, false, _||_, not, cond, true≢false}
 use native.Mathlib.Omega.{arith}
 use lib.Dec.{eqb, ltb}
 use lib.ListN.{length}
-use borrow.Author.Tests.{not-true, not-false, eqb-true, eqb-false, ltb-false}
+use borrow.Author.Tests.{not-true, eqb-true, eqb-false, ltb-false}
 use Rattle.willow.specs.declared.Order.the-variants.{Less, Equal}
 use Rattle.willow.specs.declared.Refusal.{Refusal}
-use Rattle.willow.specs.declared.Refusal.the-variants.{WrongNamespace, BadPath, TotalFull, NoRoom}
+use Rattle.willow.specs.declared.Refusal.the-variants.{WrongNamespace}
 use Rattle.willow.specs.Demand3.{withEntry, grown, history, pruned, fileAll, kept, lost, given, Stays, Goes, GivenBy, ByTable, Answered, CallPassed, Within, Demand3, Demand3OnStates}
-use Rattle.willow.specs.Entries.{Entry, Prunes, PlaceBelow, prunes, sameEntry, comparePlaces}
+use Rattle.willow.specs.Entries.{Entry, Prunes, prunes, sameEntry, comparePlaces}
 use Rattle.willow.specs.Limits.{maxWord, Words}
-use Rattle.willow.specs.Lists.{In, All, Ascending, Sum, any, filter}
+use Rattle.willow.specs.Lists.{In, All, Sum, any, filter}
 use Rattle.willow.specs.Packed.{lent}
 use Rattle.willow.specs.Paths.{Path}
-use Rattle.willow.specs.Store.{Sizes, State, fresh, Offer, Passed, Call, offer, Answer, refused, outdated, repeated, taken, isRefused, entryWith, entryFrom, offered, payloads, prunedBy, leftBy, file, answerBy, answerEntry, answerOffered, answer, afterAnswer, afterOffered, after, run, answers}
-use Rattle.willow.proofs.Bools.{both-true, either-true, neither-true, decided, decided-false, not-true-false, bool-cases}
+use Rattle.willow.specs.Store.{Sizes, State, fresh, Offer, Call, offer, Answer, refused, outdated, repeated, taken, isRefused, entryWith, entryFrom, offered, payloads, prunedBy, leftBy, file, answerBy, answerEntry, answerOffered, answer, afterAnswer, afterOffered, after, run, answers}
+use Rattle.willow.proofs.Bools.{decided-false}
 use Rattle.willow.proofs.EntryLaws.{prunes-means, prunes-fails, prunes-irreflexive, prunes-transitive, same-means, one-place}
 use Rattle.willow.proofs.FilingLaws.{Sorted, sorted-means, file-in, in-file-new, in-file-old, file-sorted, file-length, file-payloads, filter-payloads, payloads-snoc, sorted-unique, file-all-sorted, file-all-in, in-file, in-file-all}
 use Rattle.willow.proofs.ListLaws.{any-means, filter-in, in-filter, filter-ascending, filter-lengths, in-left, in-last, in-snoc}

@@ -1,19 +1,19 @@
 -- Theorem 8. Age, place and entry are compared as nested pairs, so their laws are those of pairs; pruning joins two equations,
 -- a prefix and an age, each transitive.
 use Prim.Native.Nat.{ℕ, _<_}
-use mathlib.Core.Path.{_≡_, refl, sym, _∙_, ap, subst}
+use mathlib.Core.Path.{_≡_, sym, _∙_, ap}
 use mathlib.Core.Logic.{_⊎_, inl, inr, _↔_}
 use mathlib.Core.List.{List}
-use mathlib.Core.Bool.{Bool, true, false, _&&_, true≢false, false≢true}
+use mathlib.Core.Bool.{true, false, _&&_}
 use lib.Dec.{eqb}
 use borrow.Author.Tests.{eqb-true, eq-eqb}
 use Rattle.willow.specs.declared.Order.{Order}
-use Rattle.willow.specs.declared.Order.the-variants.{Less, Equal, Greater}
+use Rattle.willow.specs.declared.Order.the-variants.{Less, Equal}
 use Rattle.willow.specs.Entries.{Entry, age, Older, Prunes, place, PlaceBelow, compareAges, isNewer, prunes, comparePlaces, entryKey, compareEntries, sameEntry, EntryLaws}
-use Rattle.willow.specs.Orders.{isGreater, isEqual, reverse, Total, Decides, compareNumbers, compareLists, comparePairs, ListBelow, PairBelow}
-use Rattle.willow.specs.Paths.{Path, Prefix, PathBelow, comparePaths, isPrefixOf}
-use Rattle.willow.proofs.Bools.{both-true, true-both, decided-false, not-true-false}
-use Rattle.willow.proofs.OrderLaws.{isGreater-true, isEqual-true, numbers-total, numbers-decided, lists-total, lists-decided, pairs-total, pairs-decided, keyed-total, below-irreflexive, below-transitive, below-cases, greater-flip}
+use Rattle.willow.specs.Orders.{isEqual, Total, Decides, compareNumbers, compareLists, comparePairs, ListBelow, PairBelow}
+use Rattle.willow.specs.Paths.{PathBelow, comparePaths, isPrefixOf}
+use Rattle.willow.proofs.Bools.{both-true, decided-false}
+use Rattle.willow.proofs.OrderLaws.{isGreater-true, isEqual-true, numbers-total, numbers-decided, lists-total, lists-decided, pairs-total, pairs-decided, keyed-total, below-irreflexive, below-transitive, below-cases}
 use Rattle.willow.proofs.PathLaws.{paths-total, paths-decided, prefix-means, prefix-transitive, prefix-self}
 
 -- AGES: timestamp, then digest, then payload length.

@@ -1,6 +1,6 @@
 -- Filing keeps a list ascending by place, and an ascending list is known by its members. So what a store holds can be compared
 -- by membership alone, and then is equal as a list.
-use Prim.Native.Nat.{ℕ, zero, suc, _+_, _≤_}
+use Prim.Native.Nat.{suc, _+_, _≤_}
 use mathlib.Core.Path.{_≡_, refl, sym, _∙_, ap, subst}
 use mathlib.Core.Logic.{_⊎_, inl, inr}
 use mathlib.Core.List.{List, [], _∷_, _++_}

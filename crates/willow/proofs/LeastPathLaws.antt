@@ -2,7 +2,7 @@
 -- that can be raised; used twice, for the bytes of a component and for the components of a path, this gives the next greater
 -- path, and from it the successor and the range of a prefix.
 use Prim.Native.Nat.{ℕ, zero, suc, _+_, _-_, _<_, _≤_, min}
-use mathlib.Core.Path.{_≡_, refl, sym, _∙_, ap, subst}
+use mathlib.Core.Path.{_≡_, refl, sym, _∙_, ap}
 use mathlib.Core.Logic.{_⊎_, inl, inr, _↔_}
 use mathlib.Core.List.{List, [], _∷_, _++_}
 use mathlib.Core.Option.{Option, none, some}
@@ -13,15 +13,15 @@ use lib.ListN.{length, replicate, length-append, length-replicate}
 use borrow.Author.Tests.{ltb-true, ltb-false, lt-ltb}
 use Rattle.willow.specs.declared.Limits.{Limits}
 use Rattle.willow.specs.declared.Order.{Order}
-use Rattle.willow.specs.declared.Order.the-variants.{Less, Equal, Greater}
+use Rattle.willow.specs.declared.Order.the-variants.{Less, Equal}
 use Rattle.willow.specs.LeastPaths.{Least, GreaterNotPrefixed, GreaterPath, keepOrRaise, raiseLast, raiseByte, raiseComponent, lengthenOrRaise, nextGreater, successor, filled, greatest, LeastPaths}
 use Rattle.willow.specs.Lists.{All}
 use Rattle.willow.specs.Numbers.{Bytes}
 use Rattle.willow.specs.Orders.{reverse, Total, AtMost, compareNumbers, compareLists}
 use Rattle.willow.specs.Paths.{Component, Path, pathLength, ValidComponent, Valid, compareComponents, comparePaths, PathBelow, Prefix, isPrefix, isPrefixOf}
-use Rattle.willow.proofs.Bools.{both-true, not-true-false}
+use Rattle.willow.proofs.Bools.{both-true}
 use Rattle.willow.proofs.OrderLaws.{less≢equal, less≢greater, equal≢greater, then-less, less-flip, equal-by, less-number, number-less, numbers-total, not-below-nil, at-most-means, below-irreflexive, below-asymmetric, below-cases}
-use Rattle.willow.proofs.PathLaws.{components-total, paths-total, paths-decided, prefix-cases, snoc-above, snoc-least, above-short, prefix-means, prefix-fails, prefix-self, prefix-at-most, prefix-block}
+use Rattle.willow.proofs.PathLaws.{components-total, paths-total, paths-decided, snoc-above, snoc-least, above-short, prefix-means, prefix-fails, prefix-self, prefix-at-most, prefix-block}
 
 -- THE LEAST BY A COMPARISON, for any order: none exactly if nothing has P; else what has P and is above nothing that has P.
 module _ {A : Type 0} (compare : A → A → Order) where

@@ -18,3 +18,4 @@ pub mod NumberLaws
 pub mod ValidLaws
 pub mod PackedPlaces
 pub mod ConstructionLaws
+pub mod AnswerLaws

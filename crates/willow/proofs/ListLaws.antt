@@ -1,13 +1,12 @@
 -- Lists: what holds throughout one, and what the tests over one mean: some element passes, the elements that pass, how many
 -- and how much they are.
-use Prim.Native.Nat.{ℕ, zero, suc, _+_, _≤_}
-use mathlib.Core.Path.{_≡_, refl, sym, _∙_, ap, subst}
+use Prim.Native.Nat.{ℕ, zero, suc, _+_}
+use mathlib.Core.Path.{_≡_, refl, sym, _∙_, ap}
 use mathlib.Core.Logic.{_⊎_, inl, inr, _↔_}
 use mathlib.Core.List.{List, [], _∷_, _++_}
-use mathlib.Core.Bool.{Bool, true, false, _||_, not, cond, true≢false, false≢true}
+use mathlib.Core.Bool.{Bool, true, false, not, cond, false≢true}
 use native.Mathlib.Omega.{arith}
 use lib.ListN.{length, take, drop}
-use borrow.Author.Tests.{not-true}
 use Rattle.willow.specs.Lists.{In, All, Ascending, Sum, Number, any, filter}
 use Rattle.willow.proofs.Bools.{either-true, neither-true, true-left, true-right, decided-false}
 

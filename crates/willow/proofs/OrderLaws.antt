@@ -1,16 +1,16 @@
 -- The comparisons of numbers, pairs and lists are total orders, and decide what they are meant to decide. Each construction
 -- carries the two records from its parts, so that every order of the core has them in a line.
-use Prim.Native.Nat.{ℕ, zero, suc, _<_, _≤_}
-use mathlib.Core.Path.{_≡_, refl, sym, _∙_, ap, subst}
+use Prim.Native.Nat.{ℕ, _<_, _≤_}
+use mathlib.Core.Path.{_≡_, refl, sym, _∙_, ap}
 use mathlib.Core.Logic.{_⊎_, inl, inr, _↔_}
 use mathlib.Core.List.{List, [], _∷_, _++_}
-use mathlib.Core.Bool.{Bool, true, false, cond, true≢false, false≢true}
+use mathlib.Core.Bool.{Bool, true, false, cond, false≢true}
 use native.Mathlib.Omega.{arith}
 use lib.Dec.{ltb, eqb}
 use borrow.Author.Tests.{ltb-true, ltb-false, eqb-true, eqb-false, lt-ltb, le-ltb, eq-eqb, ne-eqb}
 use Rattle.willow.specs.declared.Order.{Order}
 use Rattle.willow.specs.declared.Order.the-variants.{Less, Equal, Greater}
-use Rattle.willow.specs.Orders.{isLess, isEqual, isGreater, reverse, then, Total, Decides, AtMost, compareNumbers, comparePairs, PairBelow, compareLists, GoesOn, Diverges, ListBelow}
+use Rattle.willow.specs.Orders.{isLess, isEqual, isGreater, reverse, then, Total, Decides, AtMost, compareNumbers, comparePairs, PairBelow, compareLists, ListBelow}
 
 -- THE THREE ANSWERS differ.
 pub less≢equal : Less ≡ Equal → ⊥

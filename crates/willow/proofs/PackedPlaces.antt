@@ -11,17 +11,8 @@ use borrow.Author.Tests.{le-leb, eq-eqb}
 use Rattle.willow.specs.declared.Limits.{Limits}
 use Rattle.willow.specs.Numbers.{Bytes, le, numberAt}
 use Rattle.willow.specs.Paths.{Path, pathLength}
-use Rattle.willow.specs.Packed.{accumulated, joined, pack, packedCount, componentsFrom, unpack, stepsFit, wellFormed}
+use Rattle.willow.specs.Packed.{accumulated, joined, pack, packedCount, componentsFrom, lengthFrom, lengthBefore, unpack, stepsFit, wellFormed}
 use Rattle.willow.proofs.PackedLaws.{accumulated-length, joined-length, pack-table, pack-joined, tested, step-passed, end-passed, steps-within, unpack-count, pack-unpack}
-
--- THE ACCUMULATED LENGTH BEFORE COMPONENT i. Where the table stands from `at` on, with `from` before it:
-abbrev pub lengthFrom : List ℕ → ℕ → ℕ → ℕ → ℕ
-lengthFrom b at from zero = from
-lengthFrom b at from (suc i) = numberAt b (at + 8 * i)
-
--- in a whole buffer: 0 before the first component, and number i of the table behind component i
-abbrev pub lengthBefore : List ℕ → ℕ → ℕ
-lengthBefore b i = lengthFrom b 8 0 i
 
 -- the table behind its first number
 length-next : (b : List ℕ) (at from i : ℕ) → lengthFrom b at from (suc i) ≡ lengthFrom b (at + 8) (numberAt b at) i

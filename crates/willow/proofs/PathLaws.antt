@@ -1,7 +1,7 @@
 -- Theorems 1 and 2: the order of paths is that of lists over the order of components, which is that of lists over numbers; and
 -- the test of a prefix finds the rest, component by component. The laws of prefixes beside the order are said for lists.
-use Prim.Native.Nat.{ℕ, zero, suc, _+_, _<_, _≤_}
-use mathlib.Core.Path.{_≡_, refl, sym, _∙_, ap, subst}
+use Prim.Native.Nat.{ℕ, zero, suc, _<_, _≤_}
+use mathlib.Core.Path.{_≡_, refl, sym, _∙_, ap}
 use mathlib.Core.Logic.{_⊎_, inl, inr, _↔_}
 use mathlib.Core.List.{List, [], _∷_, _++_, append-assoc, append-nil}
 use mathlib.Core.Bool.{Bool, true, false, _&&_, cond, true≢false, false≢true}
@@ -10,10 +10,10 @@ use lib.ListN.{length, take, drop, length-append, take-append-drop}
 use lib.Seq.{take-at, length-take-le}
 use Rattle.willow.specs.declared.Order.{Order}
 use Rattle.willow.specs.declared.Order.the-variants.{Less, Equal, Greater}
-use Rattle.willow.specs.Orders.{isEqual, reverse, then, Total, Decides, AtMost, compareNumbers, compareLists, GoesOn, Diverges, ListBelow}
-use Rattle.willow.specs.Paths.{Component, Path, compareComponents, comparePaths, ComponentBelow, PathBelow, PathOrder, Prefix, isPrefix, isPrefixOf, Related, isRelated, commonCount, commonPrefix, Common, PathPrefix}
-use Rattle.willow.proofs.Bools.{both-true, either-true, true-left, true-right, not-true-false, bool-cases, decided-false}
-use Rattle.willow.proofs.OrderLaws.{less≢equal, less≢greater, equal≢greater, isEqual-true, then-less, then-equal, less-flip, greater-flip, equal-by, numbers-total, numbers-decided, lists-total, lists-decided, lists-after, not-below-nil, at-most-means, below-irreflexive, below-cases, below-asymmetric}
+use Rattle.willow.specs.Orders.{isEqual, reverse, then, Total, Decides, AtMost, compareNumbers, compareLists}
+use Rattle.willow.specs.Paths.{Path, compareComponents, comparePaths, ComponentBelow, PathBelow, PathOrder, Prefix, isPrefix, isPrefixOf, Related, isRelated, commonCount, commonPrefix, Common, PathPrefix}
+use Rattle.willow.proofs.Bools.{both-true, either-true, true-left, true-right, not-true-false, decided-false}
+use Rattle.willow.proofs.OrderLaws.{less≢equal, less≢greater, equal≢greater, isEqual-true, then-less, less-flip, equal-by, numbers-total, numbers-decided, lists-total, lists-decided, not-below-nil, below-asymmetric}
 
 pub components-total : Total compareComponents
 components-total = lists-total compareNumbers numbers-total

@@ -1,25 +1,25 @@
 -- Document 01's table by meaning. From each row's condition the tests come out so that the row's answer is computed; and the
 -- answer computed carries its own row's condition, since a test that fails denies what it decides.
-use Prim.Native.Nat.{ℕ, _+_, _-_, _≤_, _<_}
+use Prim.Native.Nat.{ℕ, _+_}
 use mathlib.Core.Path.{_≡_, refl, sym, _∙_, ap, subst}
 use mathlib.Core.Logic.{_⊎_, inl, inr, _↔_}
-use mathlib.Core.List.{List, [], _∷_}
+use mathlib.Core.List.{[]}
 use mathlib.Core.Option.{Option, none, some}
-use mathlib.Core.Bool.{Bool, true, false, not, cond, true≢false, false≢true}
+use mathlib.Core.Bool.{Bool, true, false, cond}
 use native.Mathlib.Omega.{arith}
 use lib.Dec.{eqb, ltb}
 use lib.ListN.{length}
-use borrow.Author.Tests.{eqb-true, eqb-false, ltb-true, ltb-false, lt-ltb, le-ltb, eq-eqb, ne-eqb}
+use borrow.Author.Tests.{eqb-true, eqb-false, ltb-true, lt-ltb, eq-eqb, ne-eqb}
 use Rattle.willow.specs.declared.Refusal.{Refusal}
 use Rattle.willow.specs.declared.Refusal.the-variants.{BadLimits, BadSheet, BadKind, WrongNamespace, BadPath, BadLengths, PathTooLong, TooManyComponents, ComponentTooLong, NoSuchPrefix, Overfilled, Unfinished, TotalFull, NoRoom, OutTooSmall}
 use Rattle.willow.specs.Demand3.{OtherNamespace, NoPath, Makes, Full, Outdated, Repeat, Crowded, ByTable}
 use Rattle.willow.specs.Entries.{Entry, Prunes, prunes, sameEntry}
 use Rattle.willow.specs.Limits.{maxWord, Words}
 use Rattle.willow.specs.Lists.{In, Number, any}
-use Rattle.willow.specs.Packed.{lent, Lent}
+use Rattle.willow.specs.Packed.{lent}
 use Rattle.willow.specs.Paths.{Path}
 use Rattle.willow.specs.Store.{Sizes, State, Offer, Passed, offer, Answer, refused, outdated, repeated, taken, entryWith, entryFrom, offered, prunedBy, leftBy, answerBy, answerEntry, answerOffered, answer}
-use Rattle.willow.proofs.Bools.{not-true-false, decided-false}
+use Rattle.willow.proofs.Bools.{decided-false}
 use Rattle.willow.proofs.EntryLaws.{prunes-means, same-means}
 use Rattle.willow.proofs.ListLaws.{any-means, number-filter, sum-unique, filter-lengths}
 use Rattle.willow.proofs.PackedLaws.{packed-form}

@@ -1,11 +1,11 @@
 -- Areas, from Willow's Grouping Entries: entries of one subspace or of any, below a path, in a range of times.
-use Prim.Native.Nat.{ℕ, suc, _<_, _≤_}
+use Prim.Native.Nat.{ℕ, _<_, _≤_}
 use mathlib.Core.Path.{_≡_}
 use mathlib.Core.Logic.{_⊎_, _↔_}
-use mathlib.Core.List.{List, []}
+use mathlib.Core.List.{[]}
 use mathlib.Core.Option.{Option, none, some}
-use mathlib.Core.Bool.{Bool, true, false, _&&_, _||_, not, cond}
-use lib.Dec.{eqb, ltb}
+use mathlib.Core.Bool.{Bool, true, false, _&&_, not, cond}
+use lib.Dec.{eqb}
 use Rattle.willow.specs.declared.AreaSubspace.{AreaSubspace}
 use Rattle.willow.specs.declared.AreaSubspace.the-variants.{Any, Id}
 use Rattle.willow.specs.declared.Limits.{Limits}
@@ -13,9 +13,9 @@ use Rattle.willow.specs.declared.Order.{Order}
 use Rattle.willow.specs.declared.Order.the-variants.{Less, Equal, Greater}
 use Rattle.willow.specs.Entries.{Entry, Prunes, ValidEntry}
 use Rattle.willow.specs.Limits.{maxWord}
-use Rattle.willow.specs.Orders.{isGreater, Total, AtMost, compareNumbers, comparePairs}
+use Rattle.willow.specs.Orders.{isGreater, Total, compareNumbers, comparePairs}
 use Rattle.willow.specs.Paths.{Path, Valid, Prefix, isPrefixOf, isRelated, comparePaths}
-use Rattle.willow.specs.Ranges.{End, endless, Range, EndHas, InRange, NonEmpty, includes, includesRange, intersection, compareRanges}
+use Rattle.willow.specs.Ranges.{endless, Range, EndHas, InRange, NonEmpty, includes, includesRange, intersection, compareRanges}
 
 -- Where an entry stands: its subspace id, its path, its timestamp.
 pub record Triplet : Type 0 where

@@ -4,7 +4,7 @@ use mathlib.Core.Path.{_≡_}
 use mathlib.Core.Logic.{_⊎_, _↔_}
 use mathlib.Core.List.{List, [], _∷_, _++_}
 use mathlib.Core.Option.{Option, none, some}
-use mathlib.Core.Bool.{Bool, true, false, _||_, not, cond}
+use mathlib.Core.Bool.{Bool, _||_, not, cond}
 use lib.ListN.{length}
 use Rattle.willow.specs.declared.Refusal.{Refusal}
 use Rattle.willow.specs.declared.Refusal.the-variants.{WrongNamespace, BadPath, TotalFull, NoRoom}
@@ -13,7 +13,7 @@ use Rattle.willow.specs.Limits.{maxWord, Words}
 use Rattle.willow.specs.Lists.{In, All, Ascending, Sum, Number, any, filter}
 use Rattle.willow.specs.Packed.{Lent}
 use Rattle.willow.specs.Paths.{Path}
-use Rattle.willow.specs.Store.{Sizes, State, fresh, Offer, Passed, Call, offer, Answer, refused, outdated, repeated, taken, isRefused, entryWith, offered, payloads, file, answer, run, answers}
+use Rattle.willow.specs.Store.{Sizes, State, fresh, Offer, Passed, Call, offer, Answer, refused, outdated, repeated, taken, isRefused, entryWith, offered, payloads, file, run, answers}
 
 -- THE HISTORY. "The history is the unrefused offers in list order, taken from what was passed to them." The entry of a call
 -- that was answered so, behind a history:

@@ -3,7 +3,7 @@ use Prim.Native.Nat.{ℕ, _<_, _≤_}
 use mathlib.Core.Path.{_≡_}
 use mathlib.Core.Logic.{_⊎_, _↔_}
 use mathlib.Core.List.{List}
-use mathlib.Core.Bool.{Bool, true, false, _&&_}
+use mathlib.Core.Bool.{Bool, true, _&&_}
 use lib.Dec.{eqb}
 use lib.ListN.{length}
 use Rattle.willow.specs.declared.Limits.{Limits}
@@ -11,7 +11,7 @@ use Rattle.willow.specs.declared.Order.{Order}
 use Rattle.willow.specs.declared.Order.the-variants.{Less}
 use Rattle.willow.specs.Limits.{maxWord}
 use Rattle.willow.specs.Numbers.{Bytes}
-use Rattle.willow.specs.Orders.{isGreater, isEqual, Total, Decides, compareNumbers, compareLists, comparePairs, ListBelow, PairBelow}
+use Rattle.willow.specs.Orders.{isGreater, isEqual, Total, compareNumbers, compareLists, comparePairs, ListBelow, PairBelow}
 use Rattle.willow.specs.Paths.{Path, Valid, Prefix, PathBelow, isPrefixOf, comparePaths}
 
 -- "Namespace, subspace, path by its components, timestamp, payload length, digest. These make an offer's entry."

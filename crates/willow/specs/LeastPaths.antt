@@ -1,10 +1,10 @@
 -- The next greater path, the successor and the greatest path.
 use Prim.Native.Nat.{ℕ, zero, suc, _+_, _-_, min}
 use mathlib.Core.Path.{_≡_}
-use mathlib.Core.Logic.{_⊎_, _↔_}
+use mathlib.Core.Logic.{_↔_}
 use mathlib.Core.List.{List, [], _∷_, _++_}
 use mathlib.Core.Option.{Option, none, some}
-use mathlib.Core.Bool.{Bool, true, false, _&&_, cond}
+use mathlib.Core.Bool.{_&&_, cond}
 use lib.Dec.{ltb}
 use lib.ListN.{length, replicate}
 use Rattle.willow.specs.declared.Limits.{Limits}

@@ -15,3 +15,4 @@ pub mod AreasOfInterest
 pub mod Store
 pub mod Demand3
 pub mod MarkedCases
+pub mod Answers

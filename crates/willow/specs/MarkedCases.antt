@@ -3,7 +3,7 @@ use Prim.Native.Nat.{ℕ}
 use mathlib.Core.Path.{_≡_}
 use mathlib.Core.List.{List, [], _∷_, _++_, map}
 use mathlib.Core.Option.{Option, none, some}
-use mathlib.Core.Bool.{Bool, true, false, _&&_, cond}
+use mathlib.Core.Bool.{cond}
 use lib.ListN.{length, replicate}
 use Rattle.willow.specs.declared.AreaSubspace.the-variants.{Any}
 use Rattle.willow.specs.declared.Limits.{Limits}

@@ -1,6 +1,6 @@
 -- Orders. A comparison answers `Order`; this file says what makes one a total order, what its three answers mean, and how
 -- the comparisons of numbers, pairs and lists are built.
-use Prim.Native.Nat.{ℕ, _<_}
+use Prim.Native.Nat.{ℕ}
 use mathlib.Core.Path.{_≡_}
 use mathlib.Core.Logic.{_⊎_, _↔_}
 use mathlib.Core.List.{List, [], _∷_, _++_}

@@ -4,7 +4,7 @@ use mathlib.Core.Path.{_≡_}
 use mathlib.Core.Logic.{_↔_}
 use mathlib.Core.List.{List, [], _∷_, _++_}
 use mathlib.Core.Option.{Option, none, some}
-use mathlib.Core.Bool.{Bool, true, false, _&&_, cond}
+use mathlib.Core.Bool.{Bool, true, _&&_, cond}
 use lib.Dec.{leb, eqb}
 use lib.ListN.{length, take, drop}
 use Rattle.willow.specs.declared.Limits.{Limits}
@@ -39,6 +39,14 @@ componentsFrom b base (suc r) at from =
 unfoldable pub unpack : List ℕ → Path
 unpack b = componentsFrom b (8 + 8 * packedCount b) (packedCount b) 8 0
 
+-- The accumulated length before component i: 0 before the first. Where the table stands from `at` on, with `from` before it:
+abbrev pub lengthFrom : List ℕ → ℕ → ℕ → ℕ → ℕ
+lengthFrom b at from zero = from
+lengthFrom b at from (suc i) = numberAt b (at + 8 * i)
+
+abbrev pub lengthBefore : List ℕ → ℕ → ℕ
+lengthBefore b i = lengthFrom b 8 0 i
+
 -- THE TEST. "Well formed: k at most MCC, steps from 0 up to MCL, last at most MPL, and no byte more." The r accumulated
 -- lengths from `at` on step up from `from` by at most MCL; the last is at most MPL, and as many bytes follow:
 abbrev pub stepsFit : Limits → List ℕ → ℕ → ℕ → ℕ → Bool
@@ -52,6 +60,13 @@ wellFormed L b =
     && (leb (packedCount b) (L .mcc)
     && (leb (8 + 8 * packedCount b) (length b)
     && stepsFit L b (packedCount b) 8 0))
+
+-- Well formed under some limits: no number of 8 bytes is above these.
+abbrev pub widest : Limits
+widest = record { mcl = maxWord; mcc = maxWord; mpl = maxWord }
+
+abbrev pub Packed : List ℕ → Type 0
+Packed b = wellFormed widest b ≡ true
 
 -- A LENT PATH. "A path is read as a lent buffer with a count beside it; the count may be below the one in the buffer; above
 -- it, 5." The whole buffer is tested, also where the count is smaller. Computed: the path, or none where refusal 5 is due.

@@ -1,6 +1,6 @@
 -- Paths: lists of components, each a list of bytes. Validity, order, prefix, relatedness and the longest common prefix,
 -- from Willow's Data Model.
-use Prim.Native.Nat.{ℕ, zero, suc, _+_, _≤_, _<_}
+use Prim.Native.Nat.{ℕ, suc, _+_, _≤_, _<_}
 use mathlib.Core.Path.{_≡_}
 use mathlib.Core.Logic.{_⊎_, _↔_}
 use mathlib.Core.List.{List, [], _∷_, _++_}

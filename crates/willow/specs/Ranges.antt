@@ -3,7 +3,7 @@ use Prim.Native.Nat.{ℕ, _<_, _≤_}
 use mathlib.Core.Path.{_≡_}
 use mathlib.Core.Logic.{_⊎_, _↔_}
 use mathlib.Core.Option.{Option, none, some}
-use mathlib.Core.Bool.{Bool, true, false, _&&_, not, cond}
+use mathlib.Core.Bool.{Bool, true, _&&_, not, cond}
 use lib.Dec.{eqb}
 use Rattle.willow.specs.declared.Limits.{Limits}
 use Rattle.willow.specs.declared.Order.{Order}

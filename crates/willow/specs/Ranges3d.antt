@@ -2,9 +2,9 @@
 use Prim.Native.Nat.{ℕ, suc, _<_, _≤_}
 use mathlib.Core.Path.{_≡_}
 use mathlib.Core.Logic.{_⊎_, _↔_}
-use mathlib.Core.List.{List, []}
+use mathlib.Core.List.{[]}
 use mathlib.Core.Option.{Option, none, some}
-use mathlib.Core.Bool.{Bool, true, false, _&&_, _||_, not, cond}
+use mathlib.Core.Bool.{Bool, true, _&&_, _||_, not, cond}
 use lib.Dec.{ltb}
 use Rattle.willow.specs.declared.AreaSubspace.{AreaSubspace}
 use Rattle.willow.specs.declared.AreaSubspace.the-variants.{Any, Id}
@@ -13,7 +13,7 @@ use Rattle.willow.specs.declared.Order.{Order}
 use Rattle.willow.specs.Areas.{Triplet, ValidTriplet, Area, ValidArea, InArea, PrunesSome}
 use Rattle.willow.specs.LeastPaths.{nextGreater}
 use Rattle.willow.specs.Limits.{maxWord}
-use Rattle.willow.specs.Orders.{isGreater, Total, AtMost, compareNumbers, comparePairs}
+use Rattle.willow.specs.Orders.{isGreater, Total, compareNumbers, comparePairs}
 use Rattle.willow.specs.Paths.{Path, Valid, Prefix, PathBelow, isPrefixOf, comparePaths}
 use Rattle.willow.specs.Ranges.{End, closed, endless, Range, EndHas, InRange, NonEmpty, includes, includesRange, intersection, compareRanges}
 

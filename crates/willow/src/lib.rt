@@ -60,6 +60,32 @@ pub enum Refusal {
     OutTooSmall,
 }
 
+// THE ANSWERS that calls share. A test: refused, or nothing to refuse.
+pub enum Tested {
+    Refused(Refusal),
+    Fine,
+}
+
+// A question with yes or no.
+pub enum Asked {
+    Refused(Refusal),
+    No,
+    Yes,
+}
+
+// A comparison.
+pub enum Compared {
+    Refused(Refusal),
+    Is(Order),
+}
+
+// A number that there may not be: a count, a length, or how many bytes were written.
+pub enum Counted {
+    Refused(Refusal),
+    Nothing,
+    Count(u64),
+}
+
 // The number by which a refusal is given.
 pub fn refusal_number(r: Refusal) -> u64
     ensures { λ n. ⌜ n ≡ refusalNumber r ⌝ }

@@ -1,7 +1,5 @@
 use Rattle.willow.proofs.capacity_accepted.Statement.{statement}
 use Rattle.willow.proofs.capacity_accepted.Tie as tie
-use Rattle.willow.proofs.capacity_accepted.Reads as reads
-use Rattle.willow.proofs.capacity_accepted.Lts as lts
 use Rattle.willow.specs.Limits.{acceptedCapacity}
 use mathlib.Core.Path.{refl}
 

@@ -1,7 +1,5 @@
 use Rattle.willow.proofs.limits_accepted.Statement.{statement}
 use Rattle.willow.proofs.limits_accepted.Tie as tie
-use Rattle.willow.proofs.limits_accepted.Reads as reads
-use Rattle.willow.proofs.limits_accepted.Lts as lts
 use Rattle.willow.specs.Limits.{acceptedLimits}
 use borrow.Author.Tests.{le-leb, lt-leb}
 

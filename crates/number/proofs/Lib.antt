@@ -1,0 +1,3 @@
+pub mod OverwritingLaws
+pub mod RecordLaws
+pub mod LoopLaws

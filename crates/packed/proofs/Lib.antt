@@ -1,0 +1,3 @@
+pub mod FormLaws
+pub mod PrefixLaws
+pub mod WalkLaws

@@ -1,0 +1,49 @@
+-- What is written, and for which outcome: a prefix is read of the buffer with the smaller count, and its packed form is as long
+-- as the code says.
+use Prim.Native.Nat.{ℕ, _+_, _*_, _≤_, _<_}
+use mathlib.Core.Path.{_≡_, sym, _∙_, ap}
+use mathlib.Core.List.{List}
+use mathlib.Core.Option.{none}
+use native.Mathlib.Omega.{arith}
+use lib.ListN.{length, take}
+use borrow.Author.Tests.{le-leb, lt-leb}
+use Rattle.willow.specs.declared.Limits.{Limits}
+use Rattle.willow.specs.Answers.{pathIn, pathRefusal, pathsRefusal, onPath, onPaths, writtenLength, writtenBuffer}
+use Rattle.willow.specs.Packed.{pack}
+use Rattle.willow.specs.Paths.{Path, pathLength, commonCount}
+use Rattle.willow.specs.Refusals.{Outcome, absent, value}
+use Rattle.willow.proofs.PackedLaws.{pack-length}
+use Rattle.willow.proofs.PathLaws.{common-means}
+use Rattle.packed.specs.Readable.{Readable}
+use Rattle.writing.specs.Writing.{prefixOf, commonPrefixOf}
+use Rattle.packed.proofs.PrefixLaws.{front}
+use Rattle.reading.proofs.TestLaws.{readable-two, two-asked}
+use Rattle.reading.proofs.QuestionLaws.{prefix-in, asked, counted}
+
+-- What is written for an outcome is written for an equal one.
+pub written-as : (o p : Outcome (List ℕ)) → o ≡ p → (r : Outcome ℕ) (before behind : List ℕ)
+    → (r ≡ writtenLength o before) × (behind ≡ writtenBuffer o before) → (r ≡ writtenLength p before) × (behind ≡ writtenBuffer p before)
+written-as o p e r before behind w = (w .0 ∙ ap (λ x. writtenLength x before) e, w .1 ∙ ap (λ x. writtenBuffer x before) e)
+
+-- What two paths have in common can be read of the first.
+pub common-within : (a : List ℕ) (j : ℕ) (q : Path) → Readable a j → commonCount (pathIn a j) q ≤ j
+common-within a j q r = let h = common-means (pathIn a j) q .of-first in let c = front a j r .count in omega arith
+
+module _ (L : Limits) (b : List ℕ) (k : ℕ) (fine : pathRefusal L b k ≡ none) where
+  pub prefix-asked : (n : ℕ) → n ≤ k → value (pathIn b n) ≡ onPath L b k (prefixOf n)
+  prefix-asked n h = rw (← asked L b k fine (prefixOf n), counted L b k fine, le-leb n k h, prefix-in b k n h)
+
+  pub prefix-none : (n : ℕ) → k < n → absent ≡ onPath L b k (prefixOf n)
+  prefix-none n h = rw (← asked L b k fine (prefixOf n), counted L b k fine, lt-leb n k h)
+
+-- WRITING A PREFIX. Its packed form is as long as the code says.
+pub prefix-size : (b : List ℕ) (n len : ℕ) → Readable b n → len ≡ pathLength (pathIn b n) → length (pack (pathIn b n)) ≡ 8 + 8 * n + len
+prefix-size b n len r e = let c = front b n r .count in let p = pack-length (pathIn b n) in omega arith
+
+-- The longest common prefix is read of the first path, with the count that was found.
+pub common-asked : (L : Limits) (a : List ℕ) (j : ℕ) (b : List ℕ) (k n : ℕ) → pathsRefusal L a j b k ≡ none
+    → n ≡ commonCount (pathIn a j) (pathIn b k) → value (pathIn a n) ≡ onPaths L a j b k commonPrefixOf
+common-asked L a j b k n fine e =
+    let r = readable-two L a j b k fine .0 in
+    let h = common-within a j (pathIn b k) r in
+    ap value (sym (prefix-in a j n (omega arith)) ∙ ap (λ m. take m (pathIn a j)) e) ∙ two-asked L a j b k commonPrefixOf fine
