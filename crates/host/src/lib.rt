@@ -13,6 +13,8 @@ ghost use Rattle.willow.specs.Orders.{orderNumber};
 ghost use Rattle.reading.specs.Reading.{componentLengthOf, componentOf, componentRefusal, countOf, emptinessOf, lengthOf, prefixCountOf, prefixLengthOf};
 ghost use Rattle.relation.specs.Relation.{commonCountOf, equalityOf, orderOf, prefixedTestOf, prefixTestOf, relatednessOf};
 ghost use Rattle.writing.specs.Writing.{commonPrefixOf, prefixOf};
+ghost use Rattle.construction.specs.Making.{appendedOf, emptyOutcome, iterOutcome, singletonOutcome, slicesAppendedOf, slicesOutcome};
+ghost use Rattle.least.specs.Places.{nextGreaterOf, successorOf};
 ghost use Rattle.host.specs.Exports.{given, itself, limitsOf, refusalStatus, yesNumber};
 
 // What an exported call returns: 0, a refusal's number or 255 for none; and the value, 0 unless there is an answer.
@@ -333,4 +335,144 @@ pub extern "C" fn wotskrale_path_write_longest_common_prefix(
     ensures { λ _. ⌜ now (out .exit) ≡ writtenBuffer (packedOutcome (onPaths (limitsOf mcl mcc mpl) (now (a .entry)) ca (now (b .entry)) cb commonPrefixOf)) (now (out .entry)) ⌝ }
 {
     counted(path::write_longest_common_prefix(Limits { mcl, mcc, mpl }, a, ca, b, cb, out))
+}
+
+// PATHS, MADE, written packed to the front of out: the length written. From slices: lengths as 8-byte numbers, and the bytes.
+#[no_mangle]
+pub extern "C" fn wotskrale_path_from_slices(
+    mcl: u64,
+    mcc: u64,
+    mpl: u64,
+    lengths: &[u8],
+    bytes: &[u8],
+    out: &mut [u8],
+) -> Answer
+    ensures { λ r. ⌜ r ≡ given itself (writtenLength (packedOutcome (slicesOutcome (limitsOf mcl mcc mpl) (now (lengths .entry)) (now (bytes .entry)))) (now (out .entry))) ⌝ }
+    ensures { λ _. ⌜ now (out .exit) ≡ writtenBuffer (packedOutcome (slicesOutcome (limitsOf mcl mcc mpl) (now (lengths .entry)) (now (bytes .entry)))) (now (out .entry)) ⌝ }
+{
+    counted(path::from_slices(Limits { mcl, mcc, mpl }, lengths, bytes, out))
+}
+
+// From slices with their total.
+#[no_mangle]
+pub extern "C" fn wotskrale_path_new_from_iter(
+    mcl: u64,
+    mcc: u64,
+    mpl: u64,
+    total: u64,
+    lengths: &[u8],
+    bytes: &[u8],
+    out: &mut [u8],
+) -> Answer
+    ensures { λ r. ⌜ r ≡ given itself (writtenLength (packedOutcome (iterOutcome (limitsOf mcl mcc mpl) total (now (lengths .entry)) (now (bytes .entry)))) (now (out .entry))) ⌝ }
+    ensures { λ _. ⌜ now (out .exit) ≡ writtenBuffer (packedOutcome (iterOutcome (limitsOf mcl mcc mpl) total (now (lengths .entry)) (now (bytes .entry)))) (now (out .entry)) ⌝ }
+{
+    counted(path::new_from_iter(Limits { mcl, mcc, mpl }, total, lengths, bytes, out))
+}
+
+// The empty path.
+#[no_mangle]
+pub extern "C" fn wotskrale_path_new_empty(mcl: u64, mcc: u64, mpl: u64, out: &mut [u8]) -> Answer
+    ensures { λ r. ⌜ r ≡ given itself (writtenLength (packedOutcome (emptyOutcome (limitsOf mcl mcc mpl))) (now (out .entry))) ⌝ }
+    ensures { λ _. ⌜ now (out .exit) ≡ writtenBuffer (packedOutcome (emptyOutcome (limitsOf mcl mcc mpl))) (now (out .entry)) ⌝ }
+{
+    counted(path::new_empty(Limits { mcl, mcc, mpl }, out))
+}
+
+// The path of one component.
+#[no_mangle]
+pub extern "C" fn wotskrale_path_new_singleton(
+    mcl: u64,
+    mcc: u64,
+    mpl: u64,
+    c: &[u8],
+    out: &mut [u8],
+) -> Answer
+    ensures { λ r. ⌜ r ≡ given itself (writtenLength (packedOutcome (singletonOutcome (limitsOf mcl mcc mpl) (now (c .entry)))) (now (out .entry))) ⌝ }
+    ensures { λ _. ⌜ now (out .exit) ≡ writtenBuffer (packedOutcome (singletonOutcome (limitsOf mcl mcc mpl) (now (c .entry)))) (now (out .entry)) ⌝ }
+{
+    counted(path::new_singleton(Limits { mcl, mcc, mpl }, c, out))
+}
+
+// A component behind a path.
+#[no_mangle]
+pub extern "C" fn wotskrale_path_append(
+    mcl: u64,
+    mcc: u64,
+    mpl: u64,
+    b: &[u8],
+    count: u64,
+    c: &[u8],
+    out: &mut [u8],
+) -> Answer
+    ensures { λ r. ⌜ r ≡ given itself (writtenLength (packedOutcome (onPath (limitsOf mcl mcc mpl) (now (b .entry)) count (appendedOf (limitsOf mcl mcc mpl) (now (c .entry))))) (now (out .entry))) ⌝ }
+    ensures { λ _. ⌜ now (out .exit) ≡ writtenBuffer (packedOutcome (onPath (limitsOf mcl mcc mpl) (now (b .entry)) count (appendedOf (limitsOf mcl mcc mpl) (now (c .entry))))) (now (out .entry)) ⌝ }
+{
+    counted(path::append(Limits { mcl, mcc, mpl }, b, count, c, out))
+}
+
+// Slices behind a path.
+#[no_mangle]
+pub extern "C" fn wotskrale_path_append_slice(
+    mcl: u64,
+    mcc: u64,
+    mpl: u64,
+    b: &[u8],
+    count: u64,
+    lengths: &[u8],
+    bytes: &[u8],
+    out: &mut [u8],
+) -> Answer
+    ensures { λ r. ⌜ r ≡ given itself (writtenLength (packedOutcome (onPath (limitsOf mcl mcc mpl) (now (b .entry)) count (slicesAppendedOf (limitsOf mcl mcc mpl) (now (lengths .entry)) (now (bytes .entry))))) (now (out .entry))) ⌝ }
+    ensures { λ _. ⌜ now (out .exit) ≡ writtenBuffer (packedOutcome (onPath (limitsOf mcl mcc mpl) (now (b .entry)) count (slicesAppendedOf (limitsOf mcl mcc mpl) (now (lengths .entry)) (now (bytes .entry))))) (now (out .entry)) ⌝ }
+{
+    counted(path::append_slice(Limits { mcl, mcc, mpl }, b, count, lengths, bytes, out))
+}
+
+// The least path above a path.
+#[no_mangle]
+pub extern "C" fn wotskrale_path_successor(
+    mcl: u64,
+    mcc: u64,
+    mpl: u64,
+    b: &[u8],
+    count: u64,
+    out: &mut [u8],
+) -> Answer
+    ensures { λ r. ⌜ r ≡ given itself (writtenLength (packedOutcome (onPath (limitsOf mcl mcc mpl) (now (b .entry)) count (successorOf (limitsOf mcl mcc mpl)))) (now (out .entry))) ⌝ }
+    ensures { λ _. ⌜ now (out .exit) ≡ writtenBuffer (packedOutcome (onPath (limitsOf mcl mcc mpl) (now (b .entry)) count (successorOf (limitsOf mcl mcc mpl)))) (now (out .entry)) ⌝ }
+{
+    counted(path::successor(Limits { mcl, mcc, mpl }, b, count, out))
+}
+
+// The least path above a path that it does not prefix.
+#[no_mangle]
+pub extern "C" fn wotskrale_path_greater_but_not_prefixed(
+    mcl: u64,
+    mcc: u64,
+    mpl: u64,
+    b: &[u8],
+    count: u64,
+    out: &mut [u8],
+) -> Answer
+    ensures { λ r. ⌜ r ≡ given itself (writtenLength (packedOutcome (onPath (limitsOf mcl mcc mpl) (now (b .entry)) count (nextGreaterOf (limitsOf mcl mcc mpl)))) (now (out .entry))) ⌝ }
+    ensures { λ _. ⌜ now (out .exit) ≡ writtenBuffer (packedOutcome (onPath (limitsOf mcl mcc mpl) (now (b .entry)) count (nextGreaterOf (limitsOf mcl mcc mpl)))) (now (out .entry)) ⌝ }
+{
+    counted(path::greater_but_not_prefixed(Limits { mcl, mcc, mpl }, b, count, out))
+}
+
+// The end of the range of one path; none where it is open.
+#[no_mangle]
+pub extern "C" fn wotskrale_path_singleton_range(
+    mcl: u64,
+    mcc: u64,
+    mpl: u64,
+    b: &[u8],
+    count: u64,
+    out: &mut [u8],
+) -> Answer
+    ensures { λ r. ⌜ r ≡ given itself (writtenLength (packedOutcome (onPath (limitsOf mcl mcc mpl) (now (b .entry)) count (successorOf (limitsOf mcl mcc mpl)))) (now (out .entry))) ⌝ }
+    ensures { λ _. ⌜ now (out .exit) ≡ writtenBuffer (packedOutcome (onPath (limitsOf mcl mcc mpl) (now (b .entry)) count (successorOf (limitsOf mcl mcc mpl)))) (now (out .entry)) ⌝ }
+{
+    counted(path::singleton_range(Limits { mcl, mcc, mpl }, b, count, out))
 }

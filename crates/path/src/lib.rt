@@ -1,5 +1,14 @@
 // Paths: every call on paths under one name (path/mod.rs).
 
+pub use construction::append;
+pub use construction::append_slice;
+pub use construction::from_slices;
+pub use construction::new_empty;
+pub use construction::new_from_iter;
+pub use construction::new_singleton;
+pub use least::greater_but_not_prefixed;
+pub use least::singleton_range;
+pub use least::successor;
 pub use reading::component;
 pub use reading::component_count;
 pub use reading::component_length;

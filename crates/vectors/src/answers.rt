@@ -3,12 +3,12 @@
 use host::Answer;
 use libc::STDOUT_FILENO;
 
-pub fn print_unreadable() {
+pub(crate) fn print_unreadable() {
     io::write_all(STDOUT_FILENO, b"unreadable\n");
 }
 
 // A test's answer.
-pub fn print_status(status: u64) {
+pub(crate) fn print_status(status: u64) {
     io::print_decimal(STDOUT_FILENO, status);
     io::write_all(STDOUT_FILENO, b"\n");
 }
@@ -19,13 +19,13 @@ fn print_numbers(a: Answer) {
     io::print_decimal(STDOUT_FILENO, a.value);
 }
 
-pub fn print_answer(a: Answer) {
+pub(crate) fn print_answer(a: Answer) {
     print_numbers(a);
     io::write_all(STDOUT_FILENO, b"\n");
 }
 
 // An answer with the output buffer behind it.
-pub fn print_written(a: Answer, out: &[u8]) {
+pub(crate) fn print_written(a: Answer, out: &[u8]) {
     print_numbers(a);
     io::write_all(STDOUT_FILENO, b" ");
     print_bytes(out);

@@ -119,7 +119,7 @@ fn fill_path(text: &[u8], out: &mut [u8]) -> Filled
 }
 
 // A buffer: x and bytes, or p and a path.
-pub fn fill_buffer(text: &[u8], out: &mut [u8]) -> Filled
+pub(crate) fn fill_buffer(text: &[u8], out: &mut [u8]) -> Filled
     ensures { λ r. ⌜ r .len ≤ length (now (out .entry)) ⌝ }
 {
     let end = text.len();

@@ -50,7 +50,7 @@ fn shape_of(name: &[u8]) -> Shape {
 }
 
 // Reads a case, and prints its answer.
-pub fn replay_case(line: &[u8]) {
+pub(crate) fn replay_case(line: &[u8]) {
     let name = pieces::piece(line, b' ', 0);
     let shape = shape_of(name);
     match shape {

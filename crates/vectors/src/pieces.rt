@@ -10,7 +10,7 @@ pub struct Number {
 }
 
 // How many pieces: one more than the separators.
-pub fn count_pieces(s: &[u8], separator: u8) -> u64 {
+pub(crate) fn count_pieces(s: &[u8], separator: u8) -> u64 {
     let mut n: u64 = 1;
     let mut i = 0;
     while i < s.len() {
@@ -64,14 +64,14 @@ fn piece_end(s: &[u8], separator: u8, from: usize) -> usize
 }
 
 // Piece i; the empty one if there are fewer.
-pub fn piece<'a>(s: &'a [u8], separator: u8, i: u64) -> &'a [u8] {
+pub(crate) fn piece<'a>(s: &'a [u8], separator: u8, i: u64) -> &'a [u8] {
     let start = piece_start(s, separator, i);
     let end = piece_end(s, separator, start);
     &s[start..end]
 }
 
 // Whether two texts are equal.
-pub fn is(a: &[u8], b: &[u8]) -> bool {
+pub(crate) fn is(a: &[u8], b: &[u8]) -> bool {
     if a.len() != b.len() {
         return false;
     }
@@ -86,7 +86,7 @@ pub fn is(a: &[u8], b: &[u8]) -> bool {
 }
 
 // Whether a name is one of the names that a list separates by spaces.
-pub fn is_among(name: &[u8], names: &[u8]) -> bool {
+pub(crate) fn is_among(name: &[u8], names: &[u8]) -> bool {
     let n = count_pieces(names, b' ');
     let mut i: u64 = 0;
     while i < n {
@@ -124,7 +124,7 @@ fn with_digit(x: u64, digit: u8) -> Number {
 }
 
 // A decimal number below 2^64.
-pub fn read_number(text: &[u8]) -> Number {
+pub(crate) fn read_number(text: &[u8]) -> Number {
     if text.len() == 0 {
         return no_number();
     }

@@ -1,6 +1,6 @@
 -- Questions on lent paths: what the tests that passed say of the buffers, and what the questions mean.
 use Prim.Native.Nat.{ℕ, _≤_}
-use mathlib.Core.Path.{_≡_, refl, ap}
+use mathlib.Core.Path.{_≡_, refl, _∙_, ap}
 use mathlib.Core.List.{List}
 use mathlib.Core.Option.{Option, none, some}
 use mathlib.Core.Bool.{Bool, true, false, _&&_, cond}
@@ -11,11 +11,12 @@ use borrow.Author.Tests.{leb-true}
 use Rattle.willow.specs.declared.Limits.{Limits}
 use Rattle.willow.specs.declared.Refusal.{Refusal}
 use Rattle.willow.specs.declared.Refusal.the-variants.{BadLimits, BadPath}
-use Rattle.willow.specs.Answers.{orElse, limitsRefusal, pathMissing, lentRefusal, pathIn, pathRefusal, pathsRefusal, onPath, onPaths, PathQuestions}
+use Rattle.willow.specs.Answers.{orElse, limitsRefusal, pathMissing, lentRefusal, pathIn, pathRefusal, pathsRefusal, onPath, onPaths, writtenLength, writtenBuffer, packedOutcome, PathQuestions}
 use Rattle.willow.specs.Limits.{Accepted, acceptedLimits, Words}
 use Rattle.willow.specs.Numbers.{Bytes}
 use Rattle.willow.specs.Packed.{packedCount, unpack, wellFormed, widest, Packed, lent, Lent}
 use Rattle.willow.specs.Paths.{Path}
+use Rattle.willow.specs.Refusals.{Outcome}
 use Rattle.willow.proofs.Bools.{both-true, decided-false}
 use Rattle.willow.proofs.LimitLaws.{limit-laws}
 use Rattle.willow.proofs.PackedLaws.{packed-form}
@@ -121,3 +122,13 @@ path-questions = record {
       let s = lent-fine L b k g c q m in
       rw (limits-fine L c, r .0, s .0, r .1, s .1);
 }
+
+-- WHAT IS WRITTEN for an outcome is written for an equal one; and for a path that is made, its packed form.
+pub written-as : (o p : Outcome (List ℕ)) → o ≡ p → (r : Outcome ℕ) (before behind : List ℕ)
+    → (r ≡ writtenLength o before) × (behind ≡ writtenBuffer o before) → (r ≡ writtenLength p before) × (behind ≡ writtenBuffer p before)
+written-as o p e r before behind w = (w .0 ∙ ap (λ x. writtenLength x before) e, w .1 ∙ ap (λ x. writtenBuffer x before) e)
+
+pub made-as : (o p : Outcome Path) → o ≡ p → (r : Outcome ℕ) (before behind : List ℕ)
+    → (r ≡ writtenLength (packedOutcome o) before) × (behind ≡ writtenBuffer (packedOutcome o) before)
+    → (r ≡ writtenLength (packedOutcome p) before) × (behind ≡ writtenBuffer (packedOutcome p) before)
+made-as o p e = written-as (packedOutcome o) (packedOutcome p) (ap packedOutcome e)

@@ -8,10 +8,10 @@ use native.Mathlib.Omega.{arith}
 use lib.ListN.{length, take}
 use borrow.Author.Tests.{le-leb, lt-leb}
 use Rattle.willow.specs.declared.Limits.{Limits}
-use Rattle.willow.specs.Answers.{pathIn, pathRefusal, pathsRefusal, onPath, onPaths, writtenLength, writtenBuffer}
+use Rattle.willow.specs.Answers.{pathIn, pathRefusal, pathsRefusal, onPath, onPaths}
 use Rattle.willow.specs.Packed.{pack}
 use Rattle.willow.specs.Paths.{Path, pathLength, commonCount}
-use Rattle.willow.specs.Refusals.{Outcome, absent, value}
+use Rattle.willow.specs.Refusals.{absent, value}
 use Rattle.willow.proofs.PackedLaws.{pack-length}
 use Rattle.willow.proofs.PathLaws.{common-means}
 use Rattle.packed.specs.Readable.{Readable}
@@ -19,11 +19,6 @@ use Rattle.writing.specs.Writing.{prefixOf, commonPrefixOf}
 use Rattle.packed.proofs.PrefixLaws.{front}
 use Rattle.reading.proofs.TestLaws.{readable-two, two-asked}
 use Rattle.reading.proofs.QuestionLaws.{prefix-in, asked, counted}
-
--- What is written for an outcome is written for an equal one.
-pub written-as : (o p : Outcome (List ℕ)) → o ≡ p → (r : Outcome ℕ) (before behind : List ℕ)
-    → (r ≡ writtenLength o before) × (behind ≡ writtenBuffer o before) → (r ≡ writtenLength p before) × (behind ≡ writtenBuffer p before)
-written-as o p e r before behind w = (w .0 ∙ ap (λ x. writtenLength x before) e, w .1 ∙ ap (λ x. writtenBuffer x before) e)
 
 -- What two paths have in common can be read of the first.
 pub common-within : (a : List ℕ) (j : ℕ) (q : Path) → Readable a j → commonCount (pathIn a j) q ≤ j

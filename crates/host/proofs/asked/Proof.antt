@@ -1,32 +1,26 @@
+-- One equation for each case of the answer.
 use borrow.Author.Needs.{needs}
 use Rattle.host.proofs.asked.Statement.{statement}
 use Rattle.host.proofs.asked.Tie as tie
 
--- src/lib.rt:36:24
 enum-known-a : tie.Need-enum-known-a
 enum-known-a c = search needs
 
--- src/lib.rt:36:47
 refusal-number-requires : tie.Need-refusal-number-requires
 refusal-number-requires c κs = search needs
 
--- src/lib.rt:37:22
 enum-told : tie.Need-enum-told
 enum-told c = search needs
 
--- src/lib.rt:38:23
 enum-told-2 : tie.Need-enum-told-2
 enum-told-2 c = search needs
 
--- src/lib.rt:32:1
 returns : tie.Need-returns
 returns c = rw (c .refusal-number .ensures, c .before .before .a .given .1)
 
--- src/lib.rt:32:1
 returns-2 : tie.Need-returns-2
 returns-2 c = rw (c .enum-told .given .1)
 
--- src/lib.rt:32:1
 returns-3 : tie.Need-returns-3
 returns-3 c = rw (c .enum-told2 .given .1)
 

@@ -1,28 +1,23 @@
+-- One equation for each case of the answer.
 use borrow.Author.Needs.{needs}
 use Rattle.host.proofs.compared.Statement.{statement}
 use Rattle.host.proofs.compared.Tie as tie
 
--- src/lib.rt:46:27
 enum-known-c : tie.Need-enum-known-c
 enum-known-c c = search needs
 
--- src/lib.rt:46:50
 refusal-number-requires : tie.Need-refusal-number-requires
 refusal-number-requires c κs = search needs
 
--- src/lib.rt:47:22
 enum-known-c-2 : tie.Need-enum-known-c-2
 enum-known-c-2 c = search needs
 
--- src/lib.rt:47:55
 order-number-requires : tie.Need-order-number-requires
 order-number-requires c κs = search needs
 
--- src/lib.rt:42:1
 returns : tie.Need-returns
 returns c = rw (c .refusal-number .ensures, c .before .before .c .given .1)
 
--- src/lib.rt:42:1
 returns-2 : tie.Need-returns-2
 returns-2 c = rw (c .order-number .ensures, c .before .before .c2 .given .1)
 

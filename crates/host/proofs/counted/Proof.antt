@@ -1,32 +1,26 @@
+-- One equation for each case of the answer.
 use borrow.Author.Needs.{needs}
 use Rattle.host.proofs.counted.Statement.{statement}
 use Rattle.host.proofs.counted.Tie as tie
 
--- src/lib.rt:55:26
 enum-known-c : tie.Need-enum-known-c
 enum-known-c c = search needs
 
--- src/lib.rt:55:49
 refusal-number-requires : tie.Need-refusal-number-requires
 refusal-number-requires c κs = search needs
 
--- src/lib.rt:56:29
 enum-told : tie.Need-enum-told
 enum-told c = search needs
 
--- src/lib.rt:57:24
 enum-known-c-2 : tie.Need-enum-known-c-2
 enum-known-c-2 c = search needs
 
--- src/lib.rt:51:1
 returns : tie.Need-returns
 returns c = rw (c .refusal-number .ensures, c .before .before .c .given .1)
 
--- src/lib.rt:51:1
 returns-2 : tie.Need-returns-2
 returns-2 c = rw (c .enum-told .given .1)
 
--- src/lib.rt:51:1
 returns-3 : tie.Need-returns-3
 returns-3 c = rw (c .before .c2 .given .1)
 

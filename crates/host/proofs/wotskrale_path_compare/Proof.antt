@@ -1,3 +1,4 @@
+-- The call's own equation, turned into numbers.
 use mathlib.Core.Path.{_∙_, ap}
 use Rattle.host.specs.Exports.{given}
 use Rattle.willow.specs.Orders.{orderNumber}
@@ -5,15 +6,12 @@ use borrow.Author.Needs.{needs}
 use Rattle.host.proofs.wotskrale_path_compare.Statement.{statement}
 use Rattle.host.proofs.wotskrale_path_compare.Tie as tie
 
--- src/lib.rt:130:14
 compare-requires : tie.Need-compare-requires
 compare-requires c κs = search needs
 
--- src/lib.rt:130:5
 compared-requires : tie.Need-compared-requires
 compared-requires c κs = search needs
 
--- src/lib.rt:126:1
 returns : tie.Need-returns
 returns c = c .compared .ensures ∙ ap (given orderNumber) (c .before .compare .ensures)
 

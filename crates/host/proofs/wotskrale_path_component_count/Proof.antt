@@ -1,18 +1,16 @@
+-- The call's own equation, turned into numbers.
 use mathlib.Core.Path.{_∙_, ap}
 use Rattle.host.specs.Exports.{given, itself}
 use borrow.Author.Needs.{needs}
 use Rattle.host.proofs.wotskrale_path_component_count.Statement.{statement}
 use Rattle.host.proofs.wotskrale_path_component_count.Tie as tie
 
--- src/lib.rt:82:13
 component-count-requires : tie.Need-component-count-requires
 component-count-requires c κs = search needs
 
--- src/lib.rt:82:5
 counted-requires : tie.Need-counted-requires
 counted-requires c κs = search needs
 
--- src/lib.rt:78:1
 returns : tie.Need-returns
 returns c = c .counted .ensures ∙ ap (given itself) (c .before .component-count .ensures)
 

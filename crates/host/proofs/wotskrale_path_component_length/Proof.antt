@@ -1,18 +1,16 @@
+-- The call's own equation, turned into numbers.
 use mathlib.Core.Path.{_∙_, ap}
 use Rattle.host.specs.Exports.{given, itself}
 use borrow.Author.Needs.{needs}
 use Rattle.host.proofs.wotskrale_path_component_length.Statement.{statement}
 use Rattle.host.proofs.wotskrale_path_component_length.Tie as tie
 
--- src/lib.rt:122:13
 component-length-requires : tie.Need-component-length-requires
 component-length-requires c κs = search needs
 
--- src/lib.rt:122:5
 counted-requires : tie.Need-counted-requires
 counted-requires c κs = search needs
 
--- src/lib.rt:118:1
 returns : tie.Need-returns
 returns c = c .counted .ensures ∙ ap (given itself) (c .before .component-length .ensures)
 

@@ -1,18 +1,16 @@
+-- The call's own equation, turned into numbers.
 use mathlib.Core.Path.{_∙_, ap}
 use Rattle.host.specs.Exports.{given, itself}
 use borrow.Author.Needs.{needs}
 use Rattle.host.proofs.wotskrale_path_create_prefix.Statement.{statement}
 use Rattle.host.proofs.wotskrale_path_create_prefix.Tie as tie
 
--- src/lib.rt:114:13
 create-prefix-requires : tie.Need-create-prefix-requires
 create-prefix-requires c κs = search needs
 
--- src/lib.rt:114:5
 counted-requires : tie.Need-counted-requires
 counted-requires c κs = search needs
 
--- src/lib.rt:110:1
 returns : tie.Need-returns
 returns c = c .counted .ensures ∙ ap (given itself) (c .before .create-prefix .ensures)
 

@@ -1,18 +1,16 @@
+-- The call's own equation, turned into numbers.
 use mathlib.Core.Path.{_∙_, ap}
 use Rattle.host.specs.Exports.{given, yesNumber}
 use borrow.Author.Needs.{needs}
 use Rattle.host.proofs.wotskrale_path_is_empty.Statement.{statement}
 use Rattle.host.proofs.wotskrale_path_is_empty.Tie as tie
 
--- src/lib.rt:90:11
 is-empty-requires : tie.Need-is-empty-requires
 is-empty-requires c κs = search needs
 
--- src/lib.rt:90:5
 asked-requires : tie.Need-asked-requires
 asked-requires c κs = search needs
 
--- src/lib.rt:86:1
 returns : tie.Need-returns
 returns c = c .asked .ensures ∙ ap (given yesNumber) (c .before .is-empty .ensures)
 

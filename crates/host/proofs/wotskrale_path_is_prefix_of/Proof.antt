@@ -1,18 +1,16 @@
+-- The call's own equation, turned into numbers.
 use mathlib.Core.Path.{_∙_, ap}
 use Rattle.host.specs.Exports.{given, yesNumber}
 use borrow.Author.Needs.{needs}
 use Rattle.host.proofs.wotskrale_path_is_prefix_of.Statement.{statement}
 use Rattle.host.proofs.wotskrale_path_is_prefix_of.Tie as tie
 
--- src/lib.rt:146:11
 is-prefix-of-requires : tie.Need-is-prefix-of-requires
 is-prefix-of-requires c κs = search needs
 
--- src/lib.rt:146:5
 asked-requires : tie.Need-asked-requires
 asked-requires c κs = search needs
 
--- src/lib.rt:142:1
 returns : tie.Need-returns
 returns c = c .asked .ensures ∙ ap (given yesNumber) (c .before .is-prefix-of .ensures)
 

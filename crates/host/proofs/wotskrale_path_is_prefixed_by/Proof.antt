@@ -1,18 +1,16 @@
+-- The call's own equation, turned into numbers.
 use mathlib.Core.Path.{_∙_, ap}
 use Rattle.host.specs.Exports.{given, yesNumber}
 use borrow.Author.Needs.{needs}
 use Rattle.host.proofs.wotskrale_path_is_prefixed_by.Statement.{statement}
 use Rattle.host.proofs.wotskrale_path_is_prefixed_by.Tie as tie
 
--- src/lib.rt:154:11
 is-prefixed-by-requires : tie.Need-is-prefixed-by-requires
 is-prefixed-by-requires c κs = search needs
 
--- src/lib.rt:154:5
 asked-requires : tie.Need-asked-requires
 asked-requires c κs = search needs
 
--- src/lib.rt:150:1
 returns : tie.Need-returns
 returns c = c .asked .ensures ∙ ap (given yesNumber) (c .before .is-prefixed-by .ensures)
 

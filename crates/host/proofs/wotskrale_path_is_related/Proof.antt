@@ -1,18 +1,16 @@
+-- The call's own equation, turned into numbers.
 use mathlib.Core.Path.{_∙_, ap}
 use Rattle.host.specs.Exports.{given, yesNumber}
 use borrow.Author.Needs.{needs}
 use Rattle.host.proofs.wotskrale_path_is_related.Statement.{statement}
 use Rattle.host.proofs.wotskrale_path_is_related.Tie as tie
 
--- src/lib.rt:162:11
 is-related-requires : tie.Need-is-related-requires
 is-related-requires c κs = search needs
 
--- src/lib.rt:162:5
 asked-requires : tie.Need-asked-requires
 asked-requires c κs = search needs
 
--- src/lib.rt:158:1
 returns : tie.Need-returns
 returns c = c .asked .ensures ∙ ap (given yesNumber) (c .before .is-related .ensures)
 

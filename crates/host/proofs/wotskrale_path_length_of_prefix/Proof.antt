@@ -1,18 +1,16 @@
+-- The call's own equation, turned into numbers.
 use mathlib.Core.Path.{_∙_, ap}
 use Rattle.host.specs.Exports.{given, itself}
 use borrow.Author.Needs.{needs}
 use Rattle.host.proofs.wotskrale_path_length_of_prefix.Statement.{statement}
 use Rattle.host.proofs.wotskrale_path_length_of_prefix.Tie as tie
 
--- src/lib.rt:106:13
 path-length-of-prefix-requires : tie.Need-path-length-of-prefix-requires
 path-length-of-prefix-requires c κs = search needs
 
--- src/lib.rt:106:5
 counted-requires : tie.Need-counted-requires
 counted-requires c κs = search needs
 
--- src/lib.rt:102:1
 returns : tie.Need-returns
 returns c = c .counted .ensures ∙ ap (given itself) (c .before .path-length-of-prefix .ensures)
 

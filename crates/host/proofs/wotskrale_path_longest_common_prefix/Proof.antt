@@ -1,18 +1,16 @@
+-- The call's own equation, turned into numbers.
 use mathlib.Core.Path.{_∙_, ap}
 use Rattle.host.specs.Exports.{given, itself}
 use borrow.Author.Needs.{needs}
 use Rattle.host.proofs.wotskrale_path_longest_common_prefix.Statement.{statement}
 use Rattle.host.proofs.wotskrale_path_longest_common_prefix.Tie as tie
 
--- src/lib.rt:170:13
 longest-common-prefix-requires : tie.Need-longest-common-prefix-requires
 longest-common-prefix-requires c κs = search needs
 
--- src/lib.rt:170:5
 counted-requires : tie.Need-counted-requires
 counted-requires c κs = search needs
 
--- src/lib.rt:166:1
 returns : tie.Need-returns
 returns c = c .counted .ensures ∙ ap (given itself) (c .before .longest-common-prefix .ensures)
 

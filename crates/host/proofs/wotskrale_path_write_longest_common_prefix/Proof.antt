@@ -1,22 +1,19 @@
+-- The call's own equation, turned into numbers.
 use mathlib.Core.Path.{_∙_, ap}
 use Rattle.host.specs.Exports.{given, itself}
 use borrow.Author.Needs.{needs}
 use Rattle.host.proofs.wotskrale_path_write_longest_common_prefix.Statement.{statement}
 use Rattle.host.proofs.wotskrale_path_write_longest_common_prefix.Tie as tie
 
--- src/lib.rt:197:13
 write-longest-common-prefix-requires : tie.Need-write-longest-common-prefix-requires
 write-longest-common-prefix-requires c κs = search needs
 
--- src/lib.rt:197:5
 counted-requires : tie.Need-counted-requires
 counted-requires c κs = search needs
 
--- src/lib.rt:192:1
 same-length : tie.Need-same-length
 same-length c = search needs
 
--- src/lib.rt:192:1
 returns : tie.Need-returns
 returns c = (c .counted .ensures ∙ ap (given itself) (c .before .before .before .write-longest-common-prefix .ensures .0), c .before .before .before .write-longest-common-prefix .ensures .1)
 

@@ -1,3 +1,4 @@
+-- The test refuses, and the question is refused alike; or it passes, and the question is asked of the path in the buffer.
 use mathlib.Core.Path.{ap}
 use Rattle.reading.proofs.TestLaws.{one-passed, one-refused, readable}
 use Rattle.reading.proofs.QuestionLaws.{component-there, component-asked, component-none}
@@ -6,55 +7,42 @@ use borrow.Author.Needs.{needs}
 use Rattle.reading.proofs.component.Statement.{statement}
 use Rattle.reading.proofs.component.Tie as tie
 
--- src/lib.rt:153:9
 test-requires : tie.Need-test-requires
 test-requires c κs = search needs
 
--- src/lib.rt:155:31
 enum-told : tie.Need-enum-told
 enum-told c = search needs
 
--- src/lib.rt:155:31
 sub-result : tie.Need-sub-result
 sub-result c = search needs
 
--- src/lib.rt:155:31
 part-result-start : tie.Need-part-result-start
 part-result-start c = search needs
 
--- src/lib.rt:155:31
 part-result-end : tie.Need-part-result-end
 part-result-end c = search needs
 
--- src/lib.rt:156:28
 enum-told-2 : tie.Need-enum-told-2
 enum-told-2 c = search needs
 
--- src/lib.rt:157:13
 component-requires : tie.Need-component-requires
 component-requires c κs = (readable _ _ _ (one-passed _ _ _ _ (c .before .before .before .test .ensures) (c .before .enum-told2 .given .1)) .packed, component-there _ _ _ (one-passed _ _ _ _ (c .before .before .before .test .ensures) (c .before .enum-told2 .given .1)) _ (c .if1 .taken))
 
--- src/lib.rt:159:13
 sub-result-2 : tie.Need-sub-result-2
 sub-result-2 c = search needs
 
--- src/lib.rt:159:13
 part-result-start-2 : tie.Need-part-result-start-2
 part-result-start-2 c = search needs
 
--- src/lib.rt:159:13
 part-result-end-2 : tie.Need-part-result-end-2
 part-result-end-2 c = search needs
 
--- src/lib.rt:150:1
 returns : tie.Need-returns
 returns c = ap bytesOr (one-refused _ _ _ (componentOf _) _ _ (c .before .before .before .test .ensures) (c .before .enum-told .given .1))
 
--- src/lib.rt:150:1
 returns-2 : tie.Need-returns-2
 returns-2 c = ap bytesOr (component-asked _ _ _ (one-passed _ _ _ _ (c .before .before .before .before .test .ensures) (c .before .before .enum-told2 .given .1)) _ _ (c .before .if1 .taken) (c .component .ensures))
 
--- src/lib.rt:150:1
 returns-3 : tie.Need-returns-3
 returns-3 c = ap bytesOr (component-none _ _ _ (one-passed _ _ _ _ (c .before .before .before .before .test .ensures) (c .before .before .enum-told2 .given .1)) _ (c .before .if1 .left))
 

@@ -1,3 +1,4 @@
+-- The test refuses, and the question is refused alike; or it passes, and the question is asked of the path in the buffer.
 use Rattle.reading.proofs.TestLaws.{one-passed, one-refused}
 use borrow.Author.Tests.{eq-eqb, ne-eqb}
 use Rattle.reading.proofs.QuestionLaws.{empty-asked}
@@ -6,27 +7,21 @@ use borrow.Author.Needs.{needs}
 use Rattle.reading.proofs.is_empty.Statement.{statement}
 use Rattle.reading.proofs.is_empty.Tie as tie
 
--- src/lib.rt:86:9
 test-requires : tie.Need-test-requires
 test-requires c κs = search needs
 
--- src/lib.rt:88:25
 enum-known-t : tie.Need-enum-known-t
 enum-known-t c = search needs
 
--- src/lib.rt:89:28
 enum-told : tie.Need-enum-told
 enum-told c = search needs
 
--- src/lib.rt:83:1
 returns : tie.Need-returns
 returns c = one-refused _ _ _ emptinessOf _ _ (c .before .before .before .test .ensures) (c .before .t .given .1)
 
--- src/lib.rt:83:1
 returns-2 : tie.Need-returns-2
 returns-2 c = empty-asked _ _ _ (one-passed _ _ _ _ (c .before .before .before .test .ensures) (c .before .enum-told .given .1)) _ (eq-eqb _ _ (c .if1 .taken))
 
--- src/lib.rt:83:1
 returns-3 : tie.Need-returns-3
 returns-3 c = empty-asked _ _ _ (one-passed _ _ _ _ (c .before .before .before .test .ensures) (c .before .enum-told .given .1)) _ (ne-eqb _ _ (c .if1 .left))
 

@@ -1,3 +1,4 @@
+-- The buffer's test first, then the count against the one in the buffer.
 use mathlib.Core.Path.{sym, _∙_, ap}
 use lib.Dec.{leb}
 use native.Mathlib.Omega.{arith}
@@ -8,20 +9,16 @@ use borrow.Author.Needs.{needs}
 use Rattle.reading.proofs.is_lent.Statement.{statement}
 use Rattle.reading.proofs.is_lent.Tie as tie
 
--- src/lib.rt:24:8
 well-formed-requires : tie.Need-well-formed-requires
 well-formed-requires c κs = search needs
 
--- src/lib.rt:25:25
 read-u64-requires : tie.Need-read-u64-requires
 read-u64-requires c κs = let h = formed-long _ _ (sym (c .before .well-formed .ensures) ∙ c .if1 .taken) in omega arith
 
--- src/lib.rt:25:9
 returns : tie.Need-returns
 unfolding packedCount
 returns c = ap (leb _) (c .read-u64 .ensures) ∙ sym (lent-counted _ _ _ (sym (c .before .before .well-formed .ensures) ∙ c .before .if1 .taken))
 
--- src/lib.rt:21:1
 returns-2 : tie.Need-returns-2
 returns-2 c = sym (lent-malformed _ _ _ (sym (c .before .well-formed .ensures) ∙ c .if1 .left))
 

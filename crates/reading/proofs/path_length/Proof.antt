@@ -1,3 +1,4 @@
+-- The test refuses, and the question is refused alike; or it passes, and the question is asked of the path in the buffer.
 use Rattle.reading.proofs.TestLaws.{one-passed, one-refused, readable}
 use Rattle.reading.proofs.QuestionLaws.{length-asked}
 use Rattle.reading.specs.Reading.{lengthOf}
@@ -5,27 +6,21 @@ use borrow.Author.Needs.{needs}
 use Rattle.reading.proofs.path_length.Statement.{statement}
 use Rattle.reading.proofs.path_length.Tie as tie
 
--- src/lib.rt:97:9
 test-requires : tie.Need-test-requires
 test-requires c κs = search needs
 
--- src/lib.rt:99:25
 enum-known-t : tie.Need-enum-known-t
 enum-known-t c = search needs
 
--- src/lib.rt:100:62
 enum-told : tie.Need-enum-told
 enum-told c = search needs
 
--- src/lib.rt:100:40
 path-length-requires : tie.Need-path-length-requires
 path-length-requires c κs = readable _ _ _ (one-passed _ _ _ _ (c .before .before .test .ensures) (c .enum-told .given .1))
 
--- src/lib.rt:94:1
 returns : tie.Need-returns
 returns c = one-refused _ _ _ lengthOf _ _ (c .before .before .before .test .ensures) (c .before .t .given .1)
 
--- src/lib.rt:94:1
 returns-2 : tie.Need-returns-2
 returns-2 c = length-asked _ _ _ (one-passed _ _ _ _ (c .before .before .before .test .ensures) (c .before .enum-told .given .1)) _ (c .path-length .ensures)
 

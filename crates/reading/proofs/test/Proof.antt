@@ -1,26 +1,22 @@
+-- One law for each way out: 1, 5, or nothing to refuse.
 use mathlib.Core.Path.{sym, _∙_}
 use Rattle.reading.proofs.TestLaws.{one-limits, one-path, one-fine}
 use borrow.Author.Needs.{needs}
 use Rattle.reading.proofs.test.Statement.{statement}
 use Rattle.reading.proofs.test.Tie as tie
 
--- src/lib.rt:34:8
 limits-accepted-requires : tie.Need-limits-accepted-requires
 limits-accepted-requires c κs = search needs
 
--- src/lib.rt:35:12
 is-lent-requires : tie.Need-is-lent-requires
 is-lent-requires c κs = search needs
 
--- src/lib.rt:36:13
 returns : tie.Need-returns
 returns c = sym (one-fine _ _ _ (sym (c .before .before .before .limits-accepted .ensures) ∙ c .before .before .if1 .taken) (sym (c .before .is-lent .ensures) ∙ c .if2 .taken))
 
--- src/lib.rt:38:9
 returns-2 : tie.Need-returns-2
 returns-2 c = sym (one-path _ _ _ (sym (c .before .before .before .limits-accepted .ensures) ∙ c .before .before .if1 .taken) (sym (c .before .is-lent .ensures) ∙ c .if2 .left))
 
--- src/lib.rt:31:1
 returns-3 : tie.Need-returns-3
 returns-3 c = sym (one-limits _ _ _ (sym (c .before .limits-accepted .ensures) ∙ c .if1 .left))
 

@@ -1,3 +1,4 @@
+-- One law for each way out: 1, 9, or nothing to refuse.
 use mathlib.Core.Path.{sym, _∙_}
 use borrow.Author.Tests.{le-leb, lt-leb}
 use Rattle.reading.proofs.TestLaws.{component-limits, component-long, component-fine}
@@ -5,19 +6,15 @@ use borrow.Author.Needs.{needs}
 use Rattle.reading.proofs.test_component.Statement.{statement}
 use Rattle.reading.proofs.test_component.Tie as tie
 
--- src/lib.rt:62:8
 limits-accepted-requires : tie.Need-limits-accepted-requires
 limits-accepted-requires c κs = search needs
 
--- src/lib.rt:64:13
 returns : tie.Need-returns
 returns c = sym (component-fine _ _ (sym (c .before .before .before .limits-accepted .ensures) ∙ c .before .before .if1 .taken) (le-leb _ _ (c .if2 .taken)))
 
--- src/lib.rt:66:9
 returns-2 : tie.Need-returns-2
 returns-2 c = sym (component-long _ _ (sym (c .before .before .before .limits-accepted .ensures) ∙ c .before .before .if1 .taken) (lt-leb _ _ (c .if2 .left)))
 
--- src/lib.rt:59:1
 returns-3 : tie.Need-returns-3
 returns-3 c = sym (component-limits _ _ (sym (c .before .limits-accepted .ensures) ∙ c .if1 .left))
 

@@ -1,34 +1,28 @@
+-- One law for each way out: 1, 5 for either path, or nothing to refuse.
 use mathlib.Core.Path.{sym, _∙_}
 use Rattle.reading.proofs.TestLaws.{two-limits, two-first, two-second, two-fine}
 use borrow.Author.Needs.{needs}
 use Rattle.reading.proofs.test_two.Statement.{statement}
 use Rattle.reading.proofs.test_two.Tie as tie
 
--- src/lib.rt:47:8
 limits-accepted-requires : tie.Need-limits-accepted-requires
 limits-accepted-requires c κs = search needs
 
--- src/lib.rt:48:12
 is-lent-requires : tie.Need-is-lent-requires
 is-lent-requires c κs = search needs
 
--- src/lib.rt:49:16
 is-lent-requires-2 : tie.Need-is-lent-requires-2
 is-lent-requires-2 c κs = search needs
 
--- src/lib.rt:50:17
 returns : tie.Need-returns
 returns c = sym (two-fine _ _ _ _ _ (sym (c .before .before .before .before .before .limits-accepted .ensures) ∙ c .before .before .before .before .if1 .taken) (sym (c .before .before .before .is-lent .ensures) ∙ c .before .before .if2 .taken) (sym (c .before .is-lent2 .ensures) ∙ c .if3 .taken))
 
--- src/lib.rt:53:9
 returns-2 : tie.Need-returns-2
 returns-2 c = sym (two-second _ _ _ _ _ (sym (c .before .before .before .before .before .limits-accepted .ensures) ∙ c .before .before .before .before .if1 .taken) (sym (c .before .before .before .is-lent .ensures) ∙ c .before .before .if2 .taken) (sym (c .before .is-lent2 .ensures) ∙ c .if3 .left))
 
--- src/lib.rt:53:9
 returns-3 : tie.Need-returns-3
 returns-3 c = sym (two-first _ _ _ _ _ (sym (c .before .before .before .limits-accepted .ensures) ∙ c .before .before .if1 .taken) (sym (c .before .is-lent .ensures) ∙ c .if2 .left))
 
--- src/lib.rt:44:1
 returns-4 : tie.Need-returns-4
 returns-4 c = sym (two-limits _ _ _ _ _ (sym (c .before .limits-accepted .ensures) ∙ c .if1 .left))
 

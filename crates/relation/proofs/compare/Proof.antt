@@ -1,3 +1,4 @@
+-- The test refuses, and the question is refused alike; or it passes, and the inner function answers for the two paths.
 use mathlib.Core.Path.{_∙_, ap}
 use Rattle.reading.proofs.TestLaws.{two-passed, two-refused, two-asked, readable-two}
 use Rattle.willow.specs.Refusals.{value}
@@ -6,27 +7,21 @@ use borrow.Author.Needs.{needs}
 use Rattle.relation.proofs.compare.Statement.{statement}
 use Rattle.relation.proofs.compare.Tie as tie
 
--- src/lib.rt:168:9
 test-two-requires : tie.Need-test-two-requires
 test-two-requires c κs = search needs
 
--- src/lib.rt:170:25
 enum-known-t : tie.Need-enum-known-t
 enum-known-t c = search needs
 
--- src/lib.rt:171:56
 enum-told : tie.Need-enum-told
 enum-told c = search needs
 
--- src/lib.rt:171:38
 compare-requires : tie.Need-compare-requires
 compare-requires c κs = readable-two _ _ _ _ _ (two-passed _ _ _ _ _ _ (c .before .before .test-two .ensures) (c .enum-told .given .1))
 
--- src/lib.rt:165:1
 returns : tie.Need-returns
 returns c = two-refused _ _ _ _ _ orderOf _ _ (c .before .before .before .test-two .ensures) (c .before .t .given .1)
 
--- src/lib.rt:165:1
 returns-2 : tie.Need-returns-2
 returns-2 c = ap value (c .compare .ensures) ∙ two-asked _ _ _ _ _ orderOf (two-passed _ _ _ _ _ _ (c .before .before .before .test-two .ensures) (c .before .enum-told .given .1))
 

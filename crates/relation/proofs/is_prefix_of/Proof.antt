@@ -1,3 +1,4 @@
+-- The test refuses, and the question is refused alike; or it passes, and the inner function answers for the two paths.
 use mathlib.Core.Path.{sym, _∙_, ap}
 use Rattle.reading.proofs.TestLaws.{two-passed, two-refused, two-asked, readable-two}
 use Rattle.willow.specs.Refusals.{value}
@@ -6,31 +7,24 @@ use borrow.Author.Needs.{needs}
 use Rattle.relation.proofs.is_prefix_of.Statement.{statement}
 use Rattle.relation.proofs.is_prefix_of.Tie as tie
 
--- src/lib.rt:194:9
 test-two-requires : tie.Need-test-two-requires
 test-two-requires c κs = search needs
 
--- src/lib.rt:196:25
 enum-known-t : tie.Need-enum-known-t
 enum-known-t c = search needs
 
--- src/lib.rt:197:51
 enum-told : tie.Need-enum-told
 enum-told c = search needs
 
--- src/lib.rt:197:28
 is-prefix-of-requires : tie.Need-is-prefix-of-requires
 is-prefix-of-requires c κs = readable-two _ _ _ _ _ (two-passed _ _ _ _ _ _ (c .before .before .test-two .ensures) (c .enum-told .given .1))
 
--- src/lib.rt:191:1
 returns : tie.Need-returns
 returns c = two-refused _ _ _ _ _ prefixTestOf _ _ (c .before .before .before .test-two .ensures) (c .before .t .given .1)
 
--- src/lib.rt:191:1
 returns-2 : tie.Need-returns-2
 returns-2 c = ap value (sym (c .if1 .taken) ∙ c .before .is-prefix-of .ensures) ∙ two-asked _ _ _ _ _ prefixTestOf (two-passed _ _ _ _ _ _ (c .before .before .before .before .test-two .ensures) (c .before .before .enum-told .given .1))
 
--- src/lib.rt:191:1
 returns-3 : tie.Need-returns-3
 returns-3 c = ap value (sym (c .if1 .left) ∙ c .before .is-prefix-of .ensures) ∙ two-asked _ _ _ _ _ prefixTestOf (two-passed _ _ _ _ _ _ (c .before .before .before .before .test-two .ensures) (c .before .before .enum-told .given .1))
 

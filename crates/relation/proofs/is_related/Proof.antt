@@ -1,3 +1,4 @@
+-- The test refuses, and the question is refused alike; or it passes, and the inner function answers for the two paths.
 use mathlib.Core.Path.{sym, _∙_, ap}
 use Rattle.reading.proofs.TestLaws.{two-passed, two-refused, two-asked, readable-two}
 use Rattle.willow.specs.Refusals.{value}
@@ -6,31 +7,24 @@ use borrow.Author.Needs.{needs}
 use Rattle.relation.proofs.is_related.Statement.{statement}
 use Rattle.relation.proofs.is_related.Tie as tie
 
--- src/lib.rt:224:9
 test-two-requires : tie.Need-test-two-requires
 test-two-requires c κs = search needs
 
--- src/lib.rt:226:25
 enum-known-t : tie.Need-enum-known-t
 enum-known-t c = search needs
 
--- src/lib.rt:227:49
 enum-told : tie.Need-enum-told
 enum-told c = search needs
 
--- src/lib.rt:227:28
 is-related-requires : tie.Need-is-related-requires
 is-related-requires c κs = readable-two _ _ _ _ _ (two-passed _ _ _ _ _ _ (c .before .before .test-two .ensures) (c .enum-told .given .1))
 
--- src/lib.rt:221:1
 returns : tie.Need-returns
 returns c = two-refused _ _ _ _ _ relatednessOf _ _ (c .before .before .before .test-two .ensures) (c .before .t .given .1)
 
--- src/lib.rt:221:1
 returns-2 : tie.Need-returns-2
 returns-2 c = ap value (sym (c .if1 .taken) ∙ c .before .is-related .ensures) ∙ two-asked _ _ _ _ _ relatednessOf (two-passed _ _ _ _ _ _ (c .before .before .before .before .test-two .ensures) (c .before .before .enum-told .given .1))
 
--- src/lib.rt:221:1
 returns-3 : tie.Need-returns-3
 returns-3 c = ap value (sym (c .if1 .left) ∙ c .before .is-related .ensures) ∙ two-asked _ _ _ _ _ relatednessOf (two-passed _ _ _ _ _ _ (c .before .before .before .before .test-two .ensures) (c .before .before .enum-told .given .1))
 

@@ -1,3 +1,4 @@
+-- The test refuses, and the question is refused alike; or it passes, and the inner function answers for the two paths.
 use mathlib.Core.Path.{_∙_, ap}
 use Rattle.reading.proofs.TestLaws.{two-passed, two-refused, two-asked, readable-two}
 use Rattle.willow.specs.Refusals.{value}
@@ -6,27 +7,21 @@ use borrow.Author.Needs.{needs}
 use Rattle.relation.proofs.longest_common_prefix.Statement.{statement}
 use Rattle.relation.proofs.longest_common_prefix.Tie as tie
 
--- src/lib.rt:239:9
 test-two-requires : tie.Need-test-two-requires
 test-two-requires c κs = search needs
 
--- src/lib.rt:241:25
 enum-known-t : tie.Need-enum-known-t
 enum-known-t c = search needs
 
--- src/lib.rt:242:57
 enum-told : tie.Need-enum-told
 enum-told c = search needs
 
--- src/lib.rt:242:40
 common-requires : tie.Need-common-requires
 common-requires c κs = readable-two _ _ _ _ _ (two-passed _ _ _ _ _ _ (c .before .before .test-two .ensures) (c .enum-told .given .1))
 
--- src/lib.rt:236:1
 returns : tie.Need-returns
 returns c = two-refused _ _ _ _ _ commonCountOf _ _ (c .before .before .before .test-two .ensures) (c .before .t .given .1)
 
--- src/lib.rt:236:1
 returns-2 : tie.Need-returns-2
 returns-2 c = ap value (c .common .ensures) ∙ two-asked _ _ _ _ _ commonCountOf (two-passed _ _ _ _ _ _ (c .before .before .before .test-two .ensures) (c .before .enum-told .given .1))
 

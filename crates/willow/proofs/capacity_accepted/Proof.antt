@@ -1,9 +1,9 @@
+-- The test is the definition.
 use Rattle.willow.proofs.capacity_accepted.Statement.{statement}
 use Rattle.willow.proofs.capacity_accepted.Tie as tie
 use Rattle.willow.specs.Limits.{acceptedCapacity}
 use mathlib.Core.Path.{refl}
 
--- src/lib.rt:108:1
 returns : tie.Need-returns
 unfolding acceptedCapacity
 returns c = refl

@@ -1,19 +1,17 @@
+-- Three tests, one after the other.
 use Rattle.willow.proofs.limits_accepted.Statement.{statement}
 use Rattle.willow.proofs.limits_accepted.Tie as tie
 use Rattle.willow.specs.Limits.{acceptedLimits}
 use borrow.Author.Tests.{le-leb, lt-leb}
 
--- src/lib.rt:99:9
 returns : tie.Need-returns
 unfolding acceptedLimits
 returns c = rw (lt-leb _ _ (c .if1 .taken))
 
--- src/lib.rt:102:9
 returns-2 : tie.Need-returns-2
 unfolding acceptedLimits
 returns-2 c = rw (le-leb _ _ (c .before .before .if1 .left), lt-leb _ _ (c .if2 .taken))
 
--- src/lib.rt:95:1
 returns-3 : tie.Need-returns-3
 unfolding acceptedLimits
 returns-3 c = rw (le-leb _ _ (c .before .before .before .if1 .left), le-leb _ _ (c .before .if2 .left))

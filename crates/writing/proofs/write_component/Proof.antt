@@ -1,45 +1,37 @@
+-- The test refuses, or there is no answer, and nothing is written; else the part is written to the front if it fits.
 use mathlib.Core.Path.{refl}
 use Rattle.reading.specs.Reading.{componentOf}
 use Rattle.reading.proofs.TestLaws.{one-passed, one-refused, readable}
-use Rattle.writing.proofs.WritingLaws.{written-as}
+use Rattle.willow.proofs.AnswerLaws.{written-as}
 use Rattle.reading.proofs.QuestionLaws.{component-there, component-asked, component-none}
 use borrow.Author.Needs.{needs}
 use Rattle.writing.proofs.write_component.Statement.{statement}
 use Rattle.writing.proofs.write_component.Tie as tie
 
--- src/lib.rt:251:9
 test-requires : tie.Need-test-requires
 test-requires c κs = search needs
 
--- src/lib.rt:253:25
 enum-known-t : tie.Need-enum-known-t
 enum-known-t c = search needs
 
--- src/lib.rt:254:28
 enum-told : tie.Need-enum-told
 enum-told c = search needs
 
--- src/lib.rt:255:24
 component-requires : tie.Need-component-requires
 component-requires c κs = (readable _ _ _ (one-passed _ _ _ _ (c .before .before .before .test .ensures) (c .before .enum-told .given .1)) .packed, component-there _ _ _ (one-passed _ _ _ _ (c .before .before .before .test .ensures) (c .before .enum-told .given .1)) _ (c .if1 .taken))
 
--- src/lib.rt:255:13
 write-part-requires : tie.Need-write-part-requires
 write-part-requires c κs = search needs
 
--- src/lib.rt:247:1
 returns : tie.Need-returns
 returns c = written-as _ _ (one-refused _ _ _ (componentOf _) _ _ (c .before .before .before .test .ensures) (c .before .t .given .1)) _ _ _ (refl, refl)
 
--- src/lib.rt:247:1
 same-length : tie.Need-same-length
 same-length c = search needs
 
--- src/lib.rt:247:1
 returns-2 : tie.Need-returns-2
 returns-2 c = written-as _ _ (component-asked _ _ _ (one-passed _ _ _ _ (c .before .before .before .before .before .before .before .before .test .ensures) (c .before .before .before .before .before .before .enum-told .given .1)) _ _ (c .before .before .before .before .before .if1 .taken) (c .before .before .before .before .component .ensures)) _ _ _ (c .before .before .write-part .ensures)
 
--- src/lib.rt:247:1
 returns-3 : tie.Need-returns-3
 returns-3 c = written-as _ _ (component-none _ _ _ (one-passed _ _ _ _ (c .before .before .before .test .ensures) (c .before .enum-told .given .1)) _ (c .if1 .left)) _ _ _ (refl, refl)
 

@@ -1,3 +1,4 @@
+-- The size is that of the packed prefix; too short a buffer is refused, else the prefix is written.
 use mathlib.Core.Path.{refl, _∙_}
 use native.Mathlib.Omega.{arith}
 use denote.Ref.{now}
@@ -12,35 +13,27 @@ use Rattle.writing.proofs.write_first.Tie as tie
 facts : (c : tie.Start) → Front (now (c .args .b)) (c .args .n)
 facts c = front (now (c .args .b)) (c .args .n) (c .pre)
 
--- src/lib.rt:280:20
 mul-size : tie.Need-mul-size
 mul-size c = omega (arith, facts (c .before .before))
 
--- src/lib.rt:280:16
 add-size : tie.Need-add-size
 add-size c = omega (arith, facts (c .before .before))
 
--- src/lib.rt:280:28
 path-length-requires : tie.Need-path-length-requires
 path-length-requires c κs = search needs
 
--- src/lib.rt:280:16
 add-size-2 : tie.Need-add-size-2
 add-size-2 c = let f = facts (c .before .before .before) in let e = c .path-length .ensures in omega arith
 
--- src/lib.rt:282:9
 returns : tie.Need-returns
 returns c = let s = prefix-size _ _ _ (c .before .before .before .before .pre) (c .before .path-length .ensures) in rw (s, lt-leb _ _ (c .if1 .taken)) (refl, refl)
 
--- src/lib.rt:284:5
 put-prefix-requires : tie.Need-put-prefix-requires
 put-prefix-requires c κs = (c .before .before .before .before .before .pre, let e = c .before .before .path-length .ensures in let h = c .before .if1 .left in omega arith)
 
--- src/lib.rt:275:1
 same-length : tie.Need-same-length
 same-length c = search needs
 
--- src/lib.rt:275:1
 returns-2 : tie.Need-returns-2
 returns-2 c = let s = prefix-size _ _ _ (c .before .before .before .before .before .before .before .before .pre) (c .before .before .before .before .before .path-length .ensures) in rw (s, le-leb _ _ (c .before .before .before .before .if1 .left)) (refl, c .before .before .put-prefix .ensures ∙ overwrite-at-front _ _ ∙ rw s)
 

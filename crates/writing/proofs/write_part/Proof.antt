@@ -1,3 +1,4 @@
+-- Too short a buffer is refused; else the write to the front is the answer and what stood behind.
 use mathlib.Core.Path.{refl, _∙_}
 use borrow.Author.Tests.{le-leb, lt-leb}
 use Rattle.number.proofs.OverwritingLaws.{overwrite-at-front}
@@ -5,19 +6,15 @@ use borrow.Author.Needs.{needs}
 use Rattle.writing.proofs.write_part.Statement.{statement}
 use Rattle.writing.proofs.write_part.Tie as tie
 
--- src/lib.rt:268:9
 returns : tie.Need-returns
 returns c = rw (lt-leb _ _ (c .if1 .taken)) (refl, refl)
 
--- src/lib.rt:270:5
 put-requires : tie.Need-put-requires
 put-requires c κs = search needs
 
--- src/lib.rt:263:1
 same-length : tie.Need-same-length
 same-length c = search needs
 
--- src/lib.rt:263:1
 returns-2 : tie.Need-returns-2
 returns-2 c = rw (le-leb _ _ (c .before .before .before .before .if1 .left)) (refl, c .before .before .put .ensures ∙ overwrite-at-front _ _)
 

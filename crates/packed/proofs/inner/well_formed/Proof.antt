@@ -1,3 +1,4 @@
+-- One law for each way out: too short, too many, cut off, or as the steps say.
 use mathlib.Core.Path.{sym, _∙_}
 use native.Mathlib.Omega.{arith}
 use Rattle.packed.proofs.FormLaws.{formed-short, formed-many, formed-cut, formed-steps}
@@ -5,31 +6,24 @@ use borrow.Author.Needs.{needs}
 use Rattle.packed.proofs.inner.well_formed.Statement.{statement}
 use Rattle.packed.proofs.inner.well_formed.Tie as tie
 
--- src/inner.rt:49:9
 returns : tie.Need-returns
 returns c = sym (formed-short _ _ (c .if1 .taken))
 
--- src/inner.rt:51:9
 read-u64-requires : tie.Need-read-u64-requires
 read-u64-requires c κs = search needs
 
--- src/inner.rt:53:9
 returns-2 : tie.Need-returns-2
 returns-2 c = sym (formed-many _ _ _ (c .before .before .before .if1 .left) (c .before .before .read-u64 .ensures) (c .if2 .taken))
 
--- src/inner.rt:56:9
 sub-if3 : tie.Need-sub-if3
 sub-if3 c = search needs
 
--- src/inner.rt:57:9
 returns-3 : tie.Need-returns-3
 returns-3 c = sym (formed-cut _ _ _ (c .before .before .before .before .if1 .left) (c .before .before .before .read-u64 .ensures) (c .before .if2 .left) (omega arith))
 
--- src/inner.rt:59:5
 steps-fit-requires : tie.Need-steps-fit-requires
 steps-fit-requires c κs = search needs
 
--- src/inner.rt:45:1
 returns-4 : tie.Need-returns-4
 returns-4 c = c .steps-fit .ensures ∙ sym (formed-steps _ _ _ (c .before .before .before .before .before .if1 .left) (c .before .before .before .before .read-u64 .ensures) (c .before .before .if2 .left) (omega arith))
 

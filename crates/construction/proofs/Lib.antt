@@ -1,0 +1,4 @@
+pub mod LengthLaws
+pub mod AdmissionLaws
+pub mod ExtendedLaws
+pub mod MakingLaws

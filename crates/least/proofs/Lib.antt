@@ -1,0 +1,3 @@
+pub mod RaiseLaws
+pub mod TailLaws
+pub mod CallLaws
