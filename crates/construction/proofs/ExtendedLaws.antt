@@ -20,7 +20,7 @@ use Rattle.willow.proofs.NumberLaws.{le-length}
 use Rattle.willow.proofs.PackedLaws.{accumulated-length, joined-length, pack-length, pack-table, pack-joined, pack-unpack, unpack-count}
 use Rattle.willow.proofs.PackedPlaces.{accumulated-take, joined-take, pack-append}
 use Rattle.number.specs.Overwriting.{overwrite}
-use Rattle.number.proofs.OverwritingLaws.{overwrite-append, overwrite-at-front}
+use Rattle.number.proofs.OverwritingLaws.{written-on, overwrite-at-front}
 use Rattle.packed.specs.Readable.{Readable}
 use Rattle.packed.proofs.PrefixLaws.{front}
 use Rattle.construction.specs.Making.{accumulatedBy, Extendable}
@@ -79,13 +79,6 @@ module _ (b : List ℕ) (k : ℕ) (r : Readable b k) (bs : Bytes b) where
 accumulated-by : (before : ℕ) (p : Path) → accumulated before p ≡ accumulatedBy before (map length p)
 accumulated-by before [] = refl
 accumulated-by before (c ∷ cs) = ap (λ s. le 8 (before + length c) ++ s) (accumulated-by (before + length c) cs)
-
--- A WRITE BEHIND OTHERS that were one write over the front.
-write-behind : (out vs ws s t : List ℕ) (at : ℕ) → length vs ≡ at → at ≤ length out → s ≡ overwrite out 0 vs → t ≡ overwrite s at ws
-    → t ≡ overwrite out 0 (vs ++ ws)
-write-behind out vs ws s t at e h x y =
-    let z : 0 + length vs ≡ at = omega arith in
-    y ∙ ap (λ l. overwrite l at ws) x ∙ rw z at (overwrite-append out 0 vs ws (omega arith))
 
 -- THE FIVE WRITES, as the code cuts the parts out. m is the count in the buffer, len the path's own bytes.
 module _ (b : List ℕ) (k : ℕ) (lengths bytes : List ℕ) (x : Extendable b k lengths bytes) (bs : Bytes b) (m len : ℕ) (em : m ≡ packedCount b)
@@ -157,10 +150,10 @@ module _ (b : List ℕ) (k : ℕ) (lengths bytes : List ℕ) (x : Extendable b k
       let l₂ = length-append counted ownTable in
       let l₃ = length-append (counted ++ ownTable) newTable in
       let l₄ = length-append (counted ++ ownTable ++ newTable) ownBytes in
-      let v₂ = write-behind out counted ownTable first second 8 (l .of-count) (omega arith) w₁ w₂ in
-      let v₃ = write-behind out (counted ++ ownTable) newTable second third (8 + 8 * k) (omega arith) (omega arith) v₂ w₃ in
-      let v₄ = write-behind out (counted ++ ownTable ++ newTable) ownBytes third fourth (8 + 8 * k + 8 * (length lengths / 8)) (omega arith) (omega arith) v₃ w₄ in
-      let v₅ = write-behind out (counted ++ ownTable ++ newTable ++ ownBytes) bytes fourth last (8 + 8 * k + 8 * (length lengths / 8) + len) (omega arith) (omega arith) v₄ w₅ in
+      let v₂ = written-on out counted ownTable first second 0 8 (omega arith) (omega arith) w₁ w₂ in
+      let v₃ = written-on out (counted ++ ownTable) newTable second third 0 (8 + 8 * k) (omega arith) (omega arith) v₂ w₃ in
+      let v₄ = written-on out (counted ++ ownTable ++ newTable) ownBytes third fourth 0 (8 + 8 * k + 8 * (length lengths / 8)) (omega arith) (omega arith) v₃ w₄ in
+      let v₅ = written-on out (counted ++ ownTable ++ newTable ++ ownBytes) bytes fourth last 0 (8 + 8 * k + 8 * (length lengths / 8) + len) (omega arith) (omega arith) v₄ w₅ in
       v₅ ∙ ap (overwrite out 0) (sym (extended-parts ∙ simp append-assoc))
 
 -- WRITTEN IF IT FITS. The packed form is as long as the code says; what is written over the front of a buffer is the answer

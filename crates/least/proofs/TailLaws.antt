@@ -18,7 +18,7 @@ use Rattle.willow.proofs.PackedLaws.{accumulated-length, joined-length, pack-le
 use Rattle.willow.proofs.PackedPlaces.{pack-append, accumulated-take, joined-append, prefix-length}
 use Rattle.willow.proofs.ValidLaws.{path-length-append}
 use Rattle.number.specs.Overwriting.{overwrite}
-use Rattle.number.proofs.OverwritingLaws.{overwrite-append}
+use Rattle.number.proofs.OverwritingLaws.{written-on}
 use Rattle.least.specs.Places.{withTail, Tailed}
 
 -- THE BYTES of the first i components and of the first m of component i stand side by side.
@@ -118,12 +118,6 @@ module _ (b : List ℕ) (i m : ℕ) (tail : Component) (t : Tailed b i m) where
         ∙ rw (n, s, table-front, bytes-front, append-nil (c ++ tail), append-nil (le 8 (lengthBefore b i + m + length tail)))
         (ap (λ x. le 8 (i + 1) ++ (accumulated 0 p ++ (le 8 (lengthBefore b i + m + length tail) ++ x))) (sym (append-assoc (joined p) c tail)))
 
--- WRITES one behind the other, from the front on.
-pub write-on : (out u v w x : List ℕ) (n : ℕ) → w ≡ overwrite out 0 u → n ≡ length u → n ≤ length out → x ≡ overwrite w n v → x ≡ overwrite out 0 (u ++ v)
-write-on out u v w x n e l h f =
-    let z : n ≡ 0 + length u = omega arith in
-    f ∙ ap (λ s. overwrite s n v) e ∙ ap (λ k. overwrite (overwrite out 0 u) k v) z ∙ overwrite-append out 0 u v (omega arith)
-
 module _ (b : List ℕ) (i m : ℕ) (tail : Component) (t : Tailed b i m) (bs : Bytes b) (n len : ℕ) (en : n ≡ packedCount b) (el : len ≡ lengthBefore b i) where
   abbrev tablePart : List ℕ
   tablePart = take (8 + 8 * i - 8) (drop 8 b)
@@ -145,12 +139,12 @@ module _ (b : List ℕ) (i m : ℕ) (tail : Component) (t : Tailed b i m) (bs : 
       let f = spot b i m tail t in
       let z = tail-size b i m tail t len el in
       let l1 : 8 ≡ length (le 8 (i + 1)) = sym (le-length 8 (i + 1)) in
-      let w2 = write-on out (le 8 (i + 1)) tablePart s1 s2 8 e1 l1 (omega arith) e2 in
+      let w2 = written-on out (le 8 (i + 1)) tablePart s1 s2 0 8 (omega arith) (omega arith) e1 e2 in
       let l2 : 8 + 8 * i ≡ length (le 8 (i + 1) ++ tablePart) = sym (simp (length-append, le-length, length-take, length-drop) (omega arith)) in
-      let w3 = write-on out (le 8 (i + 1) ++ tablePart) (le 8 (len + m + length tail)) s2 s3 (8 + 8 * i) w2 l2 (omega arith) e3 in
+      let w3 = written-on out (le 8 (i + 1) ++ tablePart) (le 8 (len + m + length tail)) s2 s3 0 (8 + 8 * i) (omega arith) (omega arith) w2 e3 in
       let l3 : 8 + 8 * i + 8 ≡ length (le 8 (i + 1) ++ tablePart ++ le 8 (len + m + length tail)) = sym (simp (length-append, le-length, length-take, length-drop) (omega arith)) in
-      let w4 = write-on out (le 8 (i + 1) ++ tablePart ++ le 8 (len + m + length tail)) bytesPart s3 s4 (8 + 8 * i + 8) w3 l3 (omega arith) e4 in
+      let w4 = written-on out (le 8 (i + 1) ++ tablePart ++ le 8 (len + m + length tail)) bytesPart s3 s4 0 (8 + 8 * i + 8) (omega arith) (omega arith) w3 e4 in
       let l4 : 8 + 8 * i + 8 + (len + m) ≡ length (le 8 (i + 1) ++ tablePart ++ le 8 (len + m + length tail) ++ bytesPart) =
       sym (simp (length-append, le-length, length-take, length-drop) (omega arith)) in
-      write-on out (le 8 (i + 1) ++ tablePart ++ le 8 (len + m + length tail) ++ bytesPart) tail s4 s5 (8 + 8 * i + 8 + (len + m)) w4 l4 (omega arith) e5
+      written-on out (le 8 (i + 1) ++ tablePart ++ le 8 (len + m + length tail) ++ bytesPart) tail s4 s5 0 (8 + 8 * i + 8 + (len + m)) (omega arith) (omega arith) w4 e5
       ∙ ap (overwrite out 0) (sym parts)

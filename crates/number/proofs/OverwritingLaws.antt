@@ -225,6 +225,12 @@ module _ {A : Type 0} where
       ∙ rw (take-written s at vs h, drop-behind s at vs h (at + length vs + length ws) (omega arith))
       (sym (overwrite-is s at (vs ++ ws) ∙ rw (length-append vs ws, n) (simp append-assoc)))
 
+  -- a write behind another, which was one over s: the two are one
+  pub written-on : (s vs ws t u : List A) (at p : ℕ) → at + length vs ≡ p → p ≤ length s → t ≡ overwrite s at vs → u ≡ overwrite t p ws
+      → u ≡ overwrite s at (vs ++ ws)
+  written-on s vs ws t u at p e h x y =
+      y ∙ ap (λ l. overwrite l p ws) x ∙ rw e at (overwrite-append s at vs ws (omega arith))
+
   pub overwrite-commute : (s : List A) (at : ℕ) (vs : List A) (p : ℕ) (ws : List A) → at + length vs ≤ p → p + length ws ≤ length s
       → overwrite (overwrite s at vs) p ws ≡ overwrite (overwrite s p ws) at vs
   overwrite-commute s at vs p ws h k =

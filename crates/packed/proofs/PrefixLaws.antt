@@ -15,7 +15,7 @@ use Rattle.willow.proofs.PackedLaws.{unpack-count, well-formed-length}
 use Rattle.willow.proofs.PackedPlaces.{prefix-length, prefix-packed}
 use Rattle.willow.proofs.ValidLaws.{path-length-take}
 use Rattle.number.specs.Overwriting.{overwrite}
-use Rattle.number.proofs.OverwritingLaws.{overwrite-append}
+use Rattle.number.proofs.OverwritingLaws.{written-on}
 use Rattle.packed.specs.Readable.{Readable}
 
 -- Before any component but the first, a number of the table, which begins at 8.
@@ -67,14 +67,8 @@ module _ (b : List ℕ) (n m e : ℕ) (r : Readable b n) (bs : Bytes b) (em : m 
       → filled ≡ overwrite out 0 (pack (pathIn b n))
   prefix-written out counted tabled filled h x y z =
       let f = front b n r in
-      let k : length (le 8 n) ≡ 8 = le-length 8 n in
+      let k : 0 + length (le 8 n) ≡ 8 = omega (arith, le-length 8 n) in
       let l : 0 + length (le 8 n ++ tablePart) ≡ 8 + 8 * n = simp (length-append, le-length, length-take, length-drop) (omega arith) in
-      let first : overwrite (overwrite out 0 (le 8 n)) 8 tablePart ≡ overwrite out 0 (le 8 n ++ tablePart) =
-      rw k at (overwrite-append out 0 (le 8 n) tablePart (omega arith)) in
-      let second : overwrite (overwrite out 0 (le 8 n ++ tablePart)) (8 + 8 * n) bytesPart ≡ overwrite out 0 (le 8 n ++ tablePart ++ bytesPart) =
-      rw l at (overwrite-append out 0 (le 8 n ++ tablePart) bytesPart (omega arith)) in
-      let tables : tabled ≡ overwrite out 0 (le 8 n ++ tablePart) = y ∙ ap (λ s. overwrite s 8 tablePart) x ∙ first in
-      z
-      ∙ ap (λ s. overwrite s (8 + 8 * n) bytesPart) tables
-      ∙ second
+      let tables = written-on out (le 8 n) tablePart counted tabled 0 8 k (omega arith) x y in
+      written-on out (le 8 n ++ tablePart) bytesPart tabled filled 0 (8 + 8 * n) l (omega arith) tables z
       ∙ ap (overwrite out 0) (append-assoc (le 8 n) tablePart bytesPart ∙ sym prefix-parts)

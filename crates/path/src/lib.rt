@@ -6,6 +6,7 @@ pub use construction::from_slices;
 pub use construction::new_empty;
 pub use construction::new_from_iter;
 pub use construction::new_singleton;
+pub use greatest::new_max;
 pub use least::greater_but_not_prefixed;
 pub use least::singleton_range;
 pub use least::successor;
