@@ -1,5 +1,9 @@
 // Paths: every call on paths under one name (path/mod.rs).
 
+pub use builder::Appended;
+pub use builder::Builder;
+pub use builder::Built;
+pub use builder::Started;
 pub use construction::append;
 pub use construction::append_slice;
 pub use construction::from_slices;
