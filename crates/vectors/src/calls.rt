@@ -1,13 +1,17 @@
 // The exported calls by name. A new call is named in `shape_of` and called in the function of its shape; a new shape of
 // arguments is a case of `Shape`, with its own function to read them.
 
-use crate::answers;
-use crate::buffers;
-use crate::pieces;
-use crate::pieces::Number;
-use host::Answer;
-ghost use Prim.Native.Nat.{_≤_};
-ghost use lib.ListN.{length};
+use cases::answers;
+use cases::arguments::Limits;
+use cases::arguments::all;
+use cases::arguments::given_buffer;
+use cases::arguments::given_limits;
+use cases::arguments::given_name;
+use cases::arguments::given_number;
+use cases::arguments::given_path;
+use cases::arguments::given_room;
+use cases::pieces;
+use convention::Answer;
 
 // The arguments that a call takes behind the limits.
 enum Shape {
@@ -51,7 +55,7 @@ fn shape_of(name: &[u8]) -> Shape {
 
 // Reads a case, and prints its answer.
 pub(crate) fn replay_case(line: &[u8]) {
-    let name = pieces::piece(line, b' ', 0);
+    let name = given_name(line);
     let shape = shape_of(name);
     match shape {
         Shape::Unknown => answers::print_unreadable(),
@@ -62,75 +66,6 @@ pub(crate) fn replay_case(line: &[u8]) {
         Shape::TwoPaths => two_paths_case(line),
         Shape::PathNumberOut => path_number_out_case(line),
         Shape::TwoPathsOut => two_paths_out_case(line),
-    }
-}
-
-// THE ARGUMENTS. `ok` is false where one cannot be read.
-struct Limits {
-    ok: bool,
-    mcl: u64,
-    mcc: u64,
-    mpl: u64,
-}
-
-struct Path {
-    ok: bool,
-    len: usize,
-    count: u64,
-}
-
-struct Room {
-    ok: bool,
-    len: usize,
-}
-
-fn all(a: bool, b: bool, c: bool, d: bool) -> bool {
-    a && b && c && d
-}
-
-fn given_number(line: &[u8], i: u64) -> Number {
-    pieces::read_number(pieces::piece(line, b' ', i))
-}
-
-// The limits; `ok` only if the line has as many pieces as the call asks.
-fn given_limits(line: &[u8], asked: u64) -> Limits {
-    let mcl = given_number(line, 1);
-    let mcc = given_number(line, 2);
-    let mpl = given_number(line, 3);
-    let whole = pieces::count_pieces(line, b' ') == asked;
-    Limits {
-        ok: all(whole, mcl.ok, mcc.ok, mpl.ok),
-        mcl: mcl.value,
-        mcc: mcc.value,
-        mpl: mpl.value,
-    }
-}
-
-// A path: the buffer of piece i, put at the front of `space`, and the count beside it.
-fn given_path(line: &[u8], i: u64, space: &mut [u8]) -> Path
-    requires { ⌜ i ≤ 100 ⌝ }
-    ensures { λ r. ⌜ r .len ≤ length (now (space .entry)) ⌝ }
-{
-    let b = buffers::fill_buffer(pieces::piece(line, b' ', i), space);
-    let count = given_number(line, i + 1);
-    Path {
-        ok: all(b.ok, count.ok, true, true),
-        len: b.len,
-        count: count.value,
-    }
-}
-
-// The length of an output buffer, at most 256.
-fn given_room(line: &[u8], i: u64) -> Room
-    ensures { λ r. ⌜ r .len ≤ 256 ⌝ }
-{
-    let n = given_number(line, i);
-    if 256 < n.value {
-        return Room { ok: false, len: 0 };
-    }
-    Room {
-        ok: n.ok,
-        len: n.value as usize,
     }
 }
 
@@ -146,13 +81,13 @@ fn no_call() -> Answer {
 fn component_case(line: &[u8]) {
     let l = given_limits(line, 5);
     let mut space = [0u8; 1024];
-    let c = buffers::fill_buffer(pieces::piece(line, b' ', 4), &mut space);
+    let c = given_buffer(line, 4, &mut space);
     if !all(l.ok, c.ok, true, true) {
         answers::print_unreadable();
         return;
     }
     let n = c.len;
-    let status = host::wotskrale_component_test(l.mcl, l.mcc, l.mpl, &space[0..n]);
+    let status = host_reading::wotskrale_component_test(l.mcl, l.mcc, l.mpl, &space[0..n]);
     answers::print_status(status);
 }
 
@@ -166,20 +101,20 @@ fn test_case(line: &[u8]) {
         return;
     }
     let n = p.len;
-    let status = host::wotskrale_path_test(l.mcl, l.mcc, l.mpl, &space[0..n], p.count);
+    let status = host_reading::wotskrale_path_test(l.mcl, l.mcc, l.mpl, &space[0..n], p.count);
     answers::print_status(status);
 }
 
 // ONE PATH.
 fn on_path(name: &[u8], l: Limits, b: &[u8], count: u64) -> Answer {
     if pieces::is(name, b"component_count") {
-        return host::wotskrale_path_component_count(l.mcl, l.mcc, l.mpl, b, count);
+        return host_reading::wotskrale_path_component_count(l.mcl, l.mcc, l.mpl, b, count);
     }
     if pieces::is(name, b"is_empty") {
-        return host::wotskrale_path_is_empty(l.mcl, l.mcc, l.mpl, b, count);
+        return host_reading::wotskrale_path_is_empty(l.mcl, l.mcc, l.mpl, b, count);
     }
     if pieces::is(name, b"length") {
-        return host::wotskrale_path_length(l.mcl, l.mcc, l.mpl, b, count);
+        return host_reading::wotskrale_path_length(l.mcl, l.mcc, l.mpl, b, count);
     }
     no_call()
 }
@@ -193,19 +128,19 @@ fn path_case(line: &[u8]) {
         return;
     }
     let n = p.len;
-    answers::print_answer(on_path(pieces::piece(line, b' ', 0), l, &space[0..n], p.count));
+    answers::print_answer(on_path(given_name(line), l, &space[0..n], p.count));
 }
 
 // ONE PATH AND A NUMBER.
 fn on_path_number(name: &[u8], l: Limits, b: &[u8], count: u64, x: u64) -> Answer {
     if pieces::is(name, b"length_of_prefix") {
-        return host::wotskrale_path_length_of_prefix(l.mcl, l.mcc, l.mpl, b, count, x);
+        return host_reading::wotskrale_path_length_of_prefix(l.mcl, l.mcc, l.mpl, b, count, x);
     }
     if pieces::is(name, b"create_prefix") {
-        return host::wotskrale_path_create_prefix(l.mcl, l.mcc, l.mpl, b, count, x);
+        return host_reading::wotskrale_path_create_prefix(l.mcl, l.mcc, l.mpl, b, count, x);
     }
     if pieces::is(name, b"component_length") {
-        return host::wotskrale_path_component_length(l.mcl, l.mcc, l.mpl, b, count, x);
+        return host_reading::wotskrale_path_component_length(l.mcl, l.mcc, l.mpl, b, count, x);
     }
     no_call()
 }
@@ -220,29 +155,37 @@ fn path_number_case(line: &[u8]) {
         return;
     }
     let n = p.len;
-    let name = pieces::piece(line, b' ', 0);
+    let name = given_name(line);
     answers::print_answer(on_path_number(name, l, &space[0..n], p.count, x.value));
 }
 
 // TWO PATHS.
 fn on_two_paths(name: &[u8], l: Limits, a: &[u8], ca: u64, b: &[u8], cb: u64) -> Answer {
     if pieces::is(name, b"compare") {
-        return host::wotskrale_path_compare(l.mcl, l.mcc, l.mpl, a, ca, b, cb);
+        return host_relation::wotskrale_path_compare(l.mcl, l.mcc, l.mpl, a, ca, b, cb);
     }
     if pieces::is(name, b"equal") {
-        return host::wotskrale_path_equal(l.mcl, l.mcc, l.mpl, a, ca, b, cb);
+        return host_relation::wotskrale_path_equal(l.mcl, l.mcc, l.mpl, a, ca, b, cb);
     }
     if pieces::is(name, b"is_prefix_of") {
-        return host::wotskrale_path_is_prefix_of(l.mcl, l.mcc, l.mpl, a, ca, b, cb);
+        return host_relation::wotskrale_path_is_prefix_of(l.mcl, l.mcc, l.mpl, a, ca, b, cb);
     }
     if pieces::is(name, b"is_prefixed_by") {
-        return host::wotskrale_path_is_prefixed_by(l.mcl, l.mcc, l.mpl, a, ca, b, cb);
+        return host_relation::wotskrale_path_is_prefixed_by(l.mcl, l.mcc, l.mpl, a, ca, b, cb);
     }
     if pieces::is(name, b"is_related") {
-        return host::wotskrale_path_is_related(l.mcl, l.mcc, l.mpl, a, ca, b, cb);
+        return host_relation::wotskrale_path_is_related(l.mcl, l.mcc, l.mpl, a, ca, b, cb);
     }
     if pieces::is(name, b"longest_common_prefix") {
-        return host::wotskrale_path_longest_common_prefix(l.mcl, l.mcc, l.mpl, a, ca, b, cb);
+        return host_relation::wotskrale_path_longest_common_prefix(
+            l.mcl,
+            l.mcc,
+            l.mpl,
+            a,
+            ca,
+            b,
+            cb,
+        );
     }
     no_call()
 }
@@ -259,7 +202,7 @@ fn two_paths_case(line: &[u8]) {
     }
     let na = a.len;
     let nb = b.len;
-    let name = pieces::piece(line, b' ', 0);
+    let name = given_name(line);
     answers::print_answer(on_two_paths(
         name,
         l,
@@ -280,10 +223,10 @@ fn write_path_number(
     out: &mut [u8],
 ) -> Answer {
     if pieces::is(name, b"write_component") {
-        return host::wotskrale_path_write_component(l.mcl, l.mcc, l.mpl, b, count, x, out);
+        return host_writing::wotskrale_path_write_component(l.mcl, l.mcc, l.mpl, b, count, x, out);
     }
     if pieces::is(name, b"write_prefix") {
-        return host::wotskrale_path_write_prefix(l.mcl, l.mcc, l.mpl, b, count, x, out);
+        return host_writing::wotskrale_path_write_prefix(l.mcl, l.mcc, l.mpl, b, count, x, out);
     }
     no_call()
 }
@@ -307,7 +250,7 @@ fn path_number_out_case(line: &[u8]) {
     let n = p.len;
     let m = room.len;
     let mut out = [238u8; 256];
-    let name = pieces::piece(line, b' ', 0);
+    let name = given_name(line);
     print_path_number(name, l, &space[0..n], p.count, x.value, &mut out[0..m]);
 }
 
@@ -322,7 +265,7 @@ fn write_two_paths(
     out: &mut [u8],
 ) -> Answer {
     if pieces::is(name, b"write_longest_common_prefix") {
-        return host::wotskrale_path_write_longest_common_prefix(
+        return host_writing::wotskrale_path_write_longest_common_prefix(
             l.mcl,
             l.mcc,
             l.mpl,
@@ -356,7 +299,7 @@ fn two_paths_out_case(line: &[u8]) {
     let nb = b.len;
     let m = room.len;
     let mut out = [238u8; 256];
-    let name = pieces::piece(line, b' ', 0);
+    let name = given_name(line);
     print_two_paths(
         name,
         l,

@@ -1,4 +1,5 @@
--- The count of turns falls; the line buffer keeps its length.
+-- The count of turns falls; both buffers keep their lengths, and the reader stays inside.
+use Prim.Native.Nat.{_≤_}
 use mathlib.Core.Path.{_≡_}
 use borrow.Author.Needs.{needs}
 use lib.ListN.{length}
@@ -6,10 +7,10 @@ use Rattle.vectors.proofs.main.Statement.{statement}
 use Rattle.vectors.proofs.main.Tie as tie
 
 abbrev Inv-loop : tie.InvT-loop
-Inv-loop line₀ st₀ turns₀ line st turns = length line ≡ 4096
+Inv-loop read₀ line₀ r₀ turns₀ read line r turns = (r .end ≤ 65536) × (length read ≡ 65536) × (length line ≡ 4096)
 
 abbrev μ-loop : tie.MeasureT-loop
-μ-loop line₀ st₀ turns₀ line st turns = turns
+μ-loop read₀ line₀ r₀ turns₀ read line r turns = turns
 
 start-requires : tie.Need-start-requires Inv-loop μ-loop
 start-requires c κs = search needs
@@ -17,11 +18,23 @@ start-requires c κs = search needs
 loop-holds : tie.Need-loop-holds Inv-loop μ-loop
 loop-holds c = search needs
 
-slice-aggregate-turn : tie.Need-slice-aggregate-turn Inv-loop μ-loop
-slice-aggregate-turn c = search needs
+slice-aggregate-next-line : tie.Need-slice-aggregate-next-line Inv-loop μ-loop
+slice-aggregate-next-line c = search needs
 
-turn-requires : tie.Need-turn-requires Inv-loop μ-loop
-turn-requires c κs = search needs
+slice-aggregate-next-line-2 : tie.Need-slice-aggregate-next-line-2 Inv-loop μ-loop
+slice-aggregate-next-line-2 c = search needs
+
+next-line-requires : tie.Need-next-line-requires Inv-loop μ-loop
+next-line-requires c κs = search needs
+
+slice-aggregate-case-in : tie.Need-slice-aggregate-case-in Inv-loop μ-loop
+slice-aggregate-case-in c = search needs
+
+case-in-requires : tie.Need-case-in-requires Inv-loop μ-loop
+case-in-requires c κs = search needs
+
+replay-requires : tie.Need-replay-requires Inv-loop μ-loop
+replay-requires c κs = search needs
 
 sub-turns : tie.Need-sub-turns Inv-loop μ-loop
 sub-turns c = search needs
@@ -46,8 +59,12 @@ main-spec =
     μ-loop
     start-requires
     loop-holds
-    slice-aggregate-turn
-    turn-requires
+    slice-aggregate-next-line
+    slice-aggregate-next-line-2
+    next-line-requires
+    slice-aggregate-case-in
+    case-in-requires
+    replay-requires
     sub-turns
     loop-less
     loop-again
