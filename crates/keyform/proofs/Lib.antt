@@ -1,0 +1,11 @@
+pub mod KeyCasesHold
+pub mod CaseLaws
+pub mod SplittingLaws
+pub mod NumeralLaws
+pub mod HexLaws
+pub mod PathTextLaws
+pub mod WordingLaws
+pub mod AnsweringLaws
+pub mod ShownLaws
+pub mod PrintingLaws
+pub mod KeyTheoremHolds
