@@ -1,0 +1,3 @@
+pub mod FoundLaws
+pub mod AskedLaws
+pub mod LineLaws
