@@ -48,7 +48,10 @@ fn named(folder: PathBuf) -> PathBuf {
             ));
         }
     }
-    folder
+    match folder.canonicalize() {
+        Ok(folder) => folder,
+        Err(error) => stop(&format!("{}: {error}", folder.display())),
+    }
 }
 
 fn of_repository() -> PathBuf {
