@@ -3,10 +3,11 @@ use Prim.Native.Nat.{ℕ, _<_, _≤_}
 use mathlib.Core.Path.{_≡_, refl, _∙_, ap}
 use mathlib.Core.Bool.{Bool, true, false, cond}
 use lib.Dec.{ltb, eqb}
-use borrow.Author.Tests.{lt-ltb, le-ltb}
+use native.Mathlib.Omega.{arith}
+use borrow.Author.Tests.{lt-ltb, le-ltb, eqb-true}
 use Rattle.willow.specs.declared.Order.{Order}
 use Rattle.willow.specs.declared.Order.the-variants.{Less, Equal, Greater}
-use Rattle.willow.specs.Orders.{isLess, isGreater, reverse, compareNumbers}
+use Rattle.willow.specs.Orders.{isLess, isEqual, isGreater, reverse, compareNumbers}
 use Rattle.willow.proofs.OrderLaws.{number-flip}
 
 pub less-test : (m n : ℕ) → isLess (compareNumbers m n) ≡ ltb m n
@@ -31,3 +32,15 @@ is-greater m n h = greater-test m n ∙ lt-ltb n m h
 
 pub not-greater : (m n : ℕ) → m ≤ n → isGreater (compareNumbers m n) ≡ false
 not-greater m n h = greater-test m n ∙ le-ltb n m h
+
+pub equal-test : (m n : ℕ) → isEqual (compareNumbers m n) ≡ eqb m n
+unfolding compareNumbers
+equal-test m n = go (eqb m n) refl
+  where
+    unequal : (a : Bool) → isEqual (cond a Less (cond false Equal Greater)) ≡ false
+    unequal true = refl
+    unequal false = refl
+
+    go : (b : Bool) → eqb m n ≡ b → isEqual (cond (ltb m n) Less (cond b Equal Greater)) ≡ b
+    go true h = let e : m ≡ n = eqb-true m n h in rw (le-ltb m n (omega (arith, e)))
+    go false h = unequal (ltb m n)

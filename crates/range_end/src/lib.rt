@@ -40,7 +40,7 @@ pub fn compare_ends(a: RangeEnd, b: RangeEnd) -> Compared
 
 // Whether an end is a value.
 pub fn end_equals(end: RangeEnd, val: u64) -> Asked
-    ensures { λ r. ⌜ askedOutcome r ≡ value (isEndValue (endOf end) val) ⌝ }
+    ensures { λ r. ⌜ askedOutcome r ≡ value (isEndValue compareNumbers (endOf end) val) ⌝ }
 {
     match end {
         RangeEnd::Closed(e) => inner::answer(e == val),
@@ -50,7 +50,7 @@ pub fn end_equals(end: RangeEnd, val: u64) -> Asked
 
 // An end against a value.
 pub fn compare_end(end: RangeEnd, val: u64) -> Compared
-    ensures { λ r. ⌜ comparedOutcome r ≡ value (compareEndValue (endOf end) val) ⌝ }
+    ensures { λ r. ⌜ comparedOutcome r ≡ value (compareEndValue compareNumbers (endOf end) val) ⌝ }
 {
     match end {
         RangeEnd::Closed(e) => Compared::Is(inner::compare_numbers(e, val)),
@@ -60,7 +60,7 @@ pub fn compare_end(end: RangeEnd, val: u64) -> Compared
 
 // A value against an end.
 pub fn compare_value(val: u64, end: RangeEnd) -> Compared
-    ensures { λ r. ⌜ comparedOutcome r ≡ value (compareValueEnd val (endOf end)) ⌝ }
+    ensures { λ r. ⌜ comparedOutcome r ≡ value (compareValueEnd compareNumbers val (endOf end)) ⌝ }
 {
     match end {
         RangeEnd::Closed(e) => Compared::Is(inner::compare_numbers(val, e)),

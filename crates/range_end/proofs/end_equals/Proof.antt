@@ -1,5 +1,6 @@
 -- A closed end is compared as its number; an open one equals none.
 use borrow.Author.Needs.{needs}
+use Rattle.range_end.proofs.NumberTests.{equal-test}
 use Rattle.range_end.proofs.end_equals.Statement.{statement}
 use Rattle.range_end.proofs.end_equals.Tie as tie
 
@@ -13,7 +14,7 @@ enum-told : tie.Need-enum-told
 enum-told c = search needs
 
 returns : tie.Need-returns
-returns c = rw (c .before .before .end .given .1) (c .answer .ensures)
+returns c = rw (c .before .before .end .given .1, equal-test _ _) (c .answer .ensures)
 
 returns-2 : tie.Need-returns-2
 returns-2 c = rw (c .enum-told .given .1)
