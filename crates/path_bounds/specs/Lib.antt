@@ -1,0 +1,2 @@
+pub mod LentPaths
+pub mod LentRanges

@@ -1,0 +1,40 @@
+-- The test refuses, and the question is refused alike; or it passes, and the inner function's answer is given.
+use mathlib.Core.Path.{_∙_, ap}
+use Rattle.willow.specs.Refusals.{value}
+use Rattle.path_bounds.proofs.LentPathLaws.{paths-passed, paths-refused, paths-asked, range-path-readable}
+use borrow.Author.Needs.{needs}
+use Rattle.path_range.proofs.includes.Statement.{statement}
+use Rattle.path_range.proofs.includes.Tie as tie
+
+test-range-and-path-requires : tie.Need-test-range-and-path-requires
+test-range-and-path-requires c κs = search needs
+
+enum-known-t : tie.Need-enum-known-t
+enum-known-t c = search needs
+
+enum-told : tie.Need-enum-told
+enum-told c = search needs
+
+includes-requires : tie.Need-includes-requires
+includes-requires c κs = range-path-readable _ (c .before .before .before .before .before .before .args .range) _ _ _ _ (paths-passed _ _ _ (c .before .before .test-range-and-path .ensures) (c .enum-told .given .1))
+
+answer-requires : tie.Need-answer-requires
+answer-requires c κs = search needs
+
+returns : tie.Need-returns
+returns c = paths-refused _ _ _ _ _ (c .before .before .before .test-range-and-path .ensures) (c .before .t .given .1)
+
+returns-2 : tie.Need-returns-2
+returns-2 c = c .answer .ensures ∙ ap value (c .before .includes .ensures) ∙ paths-asked _ _ _ (paths-passed _ _ _ (c .before .before .before .before .test-range-and-path .ensures) (c .before .before .enum-told .given .1))
+
+pub includes-spec : {M : Type 1} → statement M
+includes-spec =
+    tie.close
+    (tie.spec
+    test-range-and-path-requires
+    enum-known-t
+    enum-told
+    includes-requires
+    answer-requires
+    returns
+    returns-2)
