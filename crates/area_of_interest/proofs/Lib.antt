@@ -1,0 +1,2 @@
+pub mod InterestLaws
+pub mod LentInterestLaws
