@@ -6,6 +6,8 @@
 use convention::Answer;
 use convention::asked;
 use convention::compared;
+use kinds::EndRead;
+use kinds::RangeRead;
 use range::Met;
 use range::Range;
 use willow::Asked;
@@ -17,8 +19,9 @@ ghost use Rattle.willow.specs.Orders.{compareNumbers, orderNumber};
 ghost use Rattle.willow.specs.Ranges.{compareEnds, compareRanges, endAbove, endFrom, includes, includesRange, intersection, newClosed};
 ghost use Rattle.willow.specs.Refusals.{value};
 ghost use Rattle.convention.specs.Exports.{given, yesNumber};
+ghost use Rattle.kinds.specs.Kinds.{both, rangeFrom};
 ghost use Rattle.range.specs.NumberRanges.{isOpen, metOutcome, rangeOf, rangeOr};
-ghost use Rattle.host_range.specs.RangeExports.{both, endRead, endsRead, givenRange, onEnd, onEnds, onRange, onRanges, rangeFrom, rangeRead, rangesRead};
+ghost use Rattle.host_range.specs.RangeExports.{endsRead, givenRange, onEnd, onEnds, onRange, onRanges, rangesRead};
 
 // A range as an answer: 0, a refusal's number or 255 for none; then the range, zeros unless there is one, and 0 beside kind 0.
 #[repr(C)]
@@ -29,20 +32,10 @@ pub struct RangeAnswer {
     pub end: u64,
 }
 
-// What numbers from the host stand for: an end, two ends, a range, two ranges; bad where a kind is.
-pub(crate) enum EndRead {
-    Bad,
-    Is(RangeEnd),
-}
-
+// What numbers from the host stand for: two ends, two ranges; bad where a kind is.
 pub(crate) enum EndsRead {
     Bad,
     Are(RangeEnd, RangeEnd),
-}
-
-pub(crate) enum RangeRead {
-    Bad,
-    Is(Range),
 }
 
 pub(crate) enum RangesRead {
@@ -50,45 +43,24 @@ pub(crate) enum RangesRead {
     Are(Range, Range),
 }
 
-fn read_end(kind: u64, n: u64) -> EndRead
-    ensures { λ r. ⌜ endRead r ≡ endFrom kind n ⌝ }
-{
-    if kind == 0 {
-        return EndRead::Is(RangeEnd::Open);
-    }
-    if kind == 1 {
-        return EndRead::Is(RangeEnd::Closed(n));
-    }
-    EndRead::Bad
-}
-
 fn read_ends(j: u64, m: u64, k: u64, n: u64) -> EndsRead
     ensures { λ r. ⌜ endsRead r ≡ both (endFrom j m) (endFrom k n) ⌝ }
 {
-    match read_end(j, m) {
+    match kinds::read_end(j, m) {
         EndRead::Bad => EndsRead::Bad,
-        EndRead::Is(d) => match read_end(k, n) {
+        EndRead::Is(d) => match kinds::read_end(k, n) {
             EndRead::Bad => EndsRead::Bad,
             EndRead::Is(e) => EndsRead::Are(d, e),
         },
     }
 }
 
-fn read_range(start: u64, kind: u64, n: u64) -> RangeRead
-    ensures { λ r. ⌜ rangeRead r ≡ rangeFrom start kind n ⌝ }
-{
-    match read_end(kind, n) {
-        EndRead::Bad => RangeRead::Bad,
-        EndRead::Is(e) => RangeRead::Is(Range { start, end: e }),
-    }
-}
-
 fn read_ranges(a: u64, j: u64, m: u64, b: u64, k: u64, n: u64) -> RangesRead
     ensures { λ r. ⌜ rangesRead r ≡ both (rangeFrom a j m) (rangeFrom b k n) ⌝ }
 {
-    match read_range(a, j, m) {
+    match kinds::read_range(a, j, m) {
         RangeRead::Bad => RangesRead::Bad,
-        RangeRead::Is(s) => match read_range(b, k, n) {
+        RangeRead::Is(s) => match kinds::read_range(b, k, n) {
             RangeRead::Bad => RangesRead::Bad,
             RangeRead::Is(t) => RangesRead::Are(s, t),
         },
@@ -143,7 +115,7 @@ fn met(m: Met) -> RangeAnswer
 pub extern "C" fn wotskrale_range_end_above(kind: u64, end: u64, val: u64) -> Answer
     ensures { λ r. ⌜ r ≡ given yesNumber (onEnd kind end (λ e. value (endAbove compareNumbers e val))) ⌝ }
 {
-    match read_end(kind, end) {
+    match kinds::read_end(kind, end) {
         EndRead::Bad => asked(Asked::Refused(Refusal::BadKind)),
         EndRead::Is(e) => asked(range::gt_val(e, val)),
     }
@@ -165,7 +137,7 @@ pub extern "C" fn wotskrale_range_compare_ends(kind: u64, end: u64, kind2: u64, 
 pub extern "C" fn wotskrale_range_is_open(start: u64, kind: u64, end: u64) -> Answer
     ensures { λ r. ⌜ r ≡ given yesNumber (onRange start kind end (λ s. value (isOpen (s .end)))) ⌝ }
 {
-    match read_range(start, kind, end) {
+    match kinds::read_range(start, kind, end) {
         RangeRead::Bad => asked(Asked::Refused(Refusal::BadKind)),
         RangeRead::Is(s) => asked(range::is_open(s)),
     }
@@ -184,7 +156,7 @@ pub extern "C" fn wotskrale_range_new_closed(start: u64, end: u64) -> RangeAnswe
 pub extern "C" fn wotskrale_range_includes(start: u64, kind: u64, end: u64, val: u64) -> Answer
     ensures { λ r. ⌜ r ≡ given yesNumber (onRange start kind end (λ s. value (includes compareNumbers s val))) ⌝ }
 {
-    match read_range(start, kind, end) {
+    match kinds::read_range(start, kind, end) {
         RangeRead::Bad => asked(Asked::Refused(Refusal::BadKind)),
         RangeRead::Is(s) => asked(range::includes(s, val)),
     }
