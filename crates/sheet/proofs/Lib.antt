@@ -1,0 +1,4 @@
+pub mod RowLaws
+pub mod LayoutLaws
+pub mod CellProofs
+pub mod CellTestLaws
