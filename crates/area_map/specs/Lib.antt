@@ -1,0 +1,2 @@
+pub mod Insertions
+pub mod MapTheorem

@@ -1,0 +1,55 @@
+// The area map (grouping/area.rs, `AreaMap`) as a sheet in lent memory (document 01, "Sheets"): made fresh, and rules inserted. The
+// map's limits and capacity stand in the sheet itself.
+
+pub mod inner;
+
+use area_kinds::AreaRead;
+use willow::Counted;
+use willow::Limits;
+use willow::Refusal;
+ghost use mathlib.Core.Path.{_≡_};
+ghost use Rattle.willow.specs.Answers.{countedOutcome, writtenBuffer, writtenLength};
+ghost use Rattle.area_map.specs.Insertions.{freshMap, insertAnswer, insertion, insertLeaves};
+
+// A fresh map of these sizes written to the front of a buffer, of which nothing is read; answers its length. Refuses 1, then 15.
+pub fn fresh(limits: Limits, capacity: u64, out: &mut [u8]) -> Counted
+    ensures { λ r. ⌜ countedOutcome r ≡ writtenLength (freshMap limits capacity) (now (out .entry)) ⌝ }
+    ensures { λ _. ⌜ now (out .exit) ≡ writtenBuffer (freshMap limits capacity) (now (out .entry)) ⌝ }
+{
+    if willow::limits_accepted(limits) {
+        if willow::capacity_accepted(capacity) {
+            return inner::make(limits, capacity, out);
+        }
+    }
+    Counted::Refused(Refusal::BadLimits)
+}
+
+// An area with a value inserted behind the others; answers the position that it took. The area comes as its kinds and numbers, its
+// path as a buffer with a count. Refuses 2, then 3, then 5, then 14.
+pub fn insert(
+    sheet: &mut [u8],
+    kind: u64,
+    id: u64,
+    base: &[u8],
+    count: u64,
+    start: u64,
+    end_kind: u64,
+    end: u64,
+    value: u64,
+) -> Counted
+    ensures { λ r. ⌜ countedOutcome r ≡ insertAnswer (now (sheet .entry)) (insertion kind id (now (base .entry)) count start «end_kind» end value) ⌝ }
+    ensures { λ _. ⌜ now (sheet .exit) ≡ insertLeaves (now (sheet .entry)) (insertion kind id (now (base .entry)) count start «end_kind» end value) ⌝ }
+{
+    if map_test::inner::is_map(sheet) {
+        let limits = Limits {
+            mcl: number::read_u64(sheet, 0),
+            mcc: number::read_u64(sheet, 8),
+            mpl: number::read_u64(sheet, 16),
+        };
+        return match area_kinds::read_area(limits, kind, id, count, start, end_kind, end) {
+            AreaRead::Refused(r) => Counted::Refused(r),
+            AreaRead::Is(area) => inner::insert(sheet, limits, area, base, value),
+        };
+    }
+    Counted::Refused(Refusal::BadSheet)
+}
