@@ -1,0 +1,5 @@
+pub mod CoveringLaws
+pub mod ApartLaws
+pub mod EntryRows
+pub mod TestedLaws
+pub mod ReadingLaws

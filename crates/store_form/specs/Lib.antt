@@ -1,0 +1,3 @@
+pub mod Apart
+pub mod Stores
+pub mod StoreTest

@@ -1,0 +1,3 @@
+pub mod LeftLaws
+pub mod CarryLaws
+pub mod PassLaws
