@@ -1,0 +1,7 @@
+pub mod FiledLaws
+pub mod FreshLaws
+pub mod MeetingLaws
+pub mod NamedLaws
+pub mod OfferLaws
+pub mod TakingLaws
+pub mod WriteLaws

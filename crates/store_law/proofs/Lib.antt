@@ -1,0 +1,4 @@
+pub mod LaidOutLaws
+pub mod ProperLaws
+pub mod Demand3BytesLaws
+pub mod RefusalLaws

@@ -1,0 +1,2 @@
+pub mod Demand3Bytes
+pub mod Offers
