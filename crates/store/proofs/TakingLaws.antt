@@ -4,7 +4,7 @@ use Prim.Native.Nat.{ℕ, _+_, _-_, _*_, _≤_, _<_}
 use mathlib.Core.Path.{_≡_, refl, sym, _∙_, ap}
 use mathlib.Core.List.{List, _++_, map}
 use mathlib.Core.Option.{none}
-use mathlib.Core.Bool.{Bool, true, false}
+use mathlib.Core.Bool.{true, false}
 use native.Mathlib.Omega.{arith}
 use lib.Dec.{eqb}
 use lib.ListN.{length, take, drop, length-map}
@@ -44,6 +44,7 @@ use Rattle.store.specs.Taking.{entryAnswer, entryLeaves, rowsLeft, filed
 use Rattle.store.proofs.FiledLaws.{withAt, length-with-at, map-with-at, closed-filled, put-filled}
 use Rattle.store.proofs.MeetingLaws as meeting
 use Rattle.store.proofs.NamedLaws.{rows-stay}
+use Rattle.store.proofs.TableLaws.{taken-means}
 use Rattle.store.proofs.WriteLaws.{as-found, let-go-put, counts-put}
 
 -- THE PATH of an offer is packed in no more bytes than a cell has.
@@ -56,13 +57,6 @@ path-fits L b k bytes e =
     let r = cell-room L _ v in
     let l = pack-length (pathIn b k) in
     omega arith
-
--- TAKEN is answered only where no test held.
-taken-means : (o r c : Bool) (k m : ℕ) → answerBy false o r c k ≡ taken m → (o ≡ false) × (r ≡ false) × (c ≡ false) × (k ≡ m)
-taken-means true r c k m e = absurd (let z : _≡_ {A = ℕ} 0 1 = cc in omega arith)
-taken-means false true c k m e = absurd (let z : _≡_ {A = ℕ} 0 1 = cc in omega arith)
-taken-means false false true k m e = absurd (let z : _≡_ {A = ℕ} 0 1 = cc in omega arith)
-taken-means false false false k m e = (refl, refl, refl, cc)
 
 -- WHAT WAS READ of a header.
 pub record Numbers : Type 0 where

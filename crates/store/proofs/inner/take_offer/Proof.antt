@@ -50,7 +50,7 @@ files : (c : tie.After-k) → Filing (numbers (c .before .before .before .before
 files c =
     let s = c .before .before .before .before .before .before .before .before .before .before .before .before .before .before .before .before .before in
     filing (sheet s) (bytes (c .before .before .before .before .before .before .before .before .before .before .before .before .before .before .before .before)) (s .pre .0) (s .args .head) (path s) (numbers (c .before .before .before .before .before .before .before)) (same (c .before .before .before .before .before .before .before)) (c .before .before .before .before .scan-rows .result) (c .before .before .before .before .scan-rows .ensures)
-    (c .before .before .before .before .before .before .if1 .left) (c .before .before .decided .result) (c .before .before .decided .ensures) (c .k .given .0 .0) (c .k .given .1)
+    (c .before .before .before .before .before .before .if1 .left) (c .before .before .decided .result) (c .before .before .decided .ensures) _ (c .k .given .1)
 
 read-u64-requires : tie.Need-read-u64-requires
 read-u64-requires c κs = omega (arith, known (sheet (c .before .before .before)) (c .before .before .before .pre .0))
@@ -184,7 +184,7 @@ returns-5 c =
     let s = c .before .before .before .before .before .before .before .before .before .before .before .before .before .before .before .before .before .before .before .before .before .before .before .before .before .before in
     let m = c .before .before .before .before .before .before .before .before .before .before .before in
     taken-so (sheet s) (bytes (c .before .before .before .before .before .before .before .before .before .before .before .before .before .before .before .before .before .before .before .before .before .before .before .before .before)) (s .pre .0) (s .args .head) (path s) (numbers (c .before .before .before .before .before .before .before .before .before .before .before .before .before .before .before .before)) (same (c .before .before .before .before .before .before .before .before .before .before .before .before .before .before .before .before)) (c .before .before .before .before .before .before .before .before .before .before .before .before .before .scan-rows .result) (c .before .before .before .before .before .before .before .before .before .before .before .before .before .scan-rows .ensures)
-    (c .before .before .before .before .before .before .before .before .before .before .before .before .before .before .before .if1 .left) (m .decided .result) (m .decided .ensures) (c .before .before .before .before .before .before .before .before .before .k .given .0 .0) (c .before .before .before .before .before .before .before .before .before .k .given .1) _ _ (c .before .before .before .before .before .before .file-rows .ensures) (c .before .before .set-counts .ensures)
+    (c .before .before .before .before .before .before .before .before .before .before .before .before .before .before .before .if1 .left) (m .decided .result) (m .decided .ensures) _ (c .before .before .before .before .before .before .before .before .before .k .given .1) _ _ (c .before .before .before .before .before .before .file-rows .ensures) (c .before .before .set-counts .ensures)
 
 pub take-offer-spec : {M : Type 1} → statement M
 take-offer-spec =
