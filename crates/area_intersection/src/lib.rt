@@ -24,7 +24,7 @@ pub enum AreaMet {
 pub fn intersection(limits: Limits, area: Area, base: &[u8], other: Area, base2: &[u8]) -> AreaMet
     ensures { λ r. ⌜ metOutcome r ≡ onAreas limits area (now (base .entry)) other (now (base2 .entry)) standing ⌝ }
 {
-    let t = reading::test_two(limits, base, area.count, base2, other.count);
+    let t = lent_path::test_two(limits, base, area.count, base2, other.count);
     match t {
         Tested::Refused(r) => AreaMet::Refused(r),
         Tested::Fine => inner::intersection(area, base, other, base2),

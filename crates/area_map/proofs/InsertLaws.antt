@@ -21,7 +21,7 @@ use Rattle.willow.proofs.LimitLaws.{limit-laws}
 use Rattle.willow.proofs.PackedLaws.{pack-length, unpack-valid}
 use Rattle.willow.proofs.ValidLaws.{valid-take}
 use Rattle.packed.proofs.PrefixLaws.{front}
-use Rattle.reading.proofs.TestLaws.{readable}
+use Rattle.lent_path.proofs.TestLaws.{readable}
 use Rattle.sheet.specs.Cells.{cellSizeOf}
 use Rattle.sheet.specs.Rows.{Room}
 use Rattle.sheet.proofs.CellProofs.{cell-room}
@@ -31,9 +31,9 @@ use Rattle.area_kinds.specs.AreaKinds.{Parts, areaWith}
 use Rattle.map_form.specs.Maps.{MapSizes, mapShape, Rule, sizesIn, countIn, rulesIn}
 use Rattle.map_form.specs.MapTest.{isMap}
 use Rattle.map_form.proofs.MapTestLaws.{Passed, map-passed}
-use Rattle.area_map.specs.Insertions.{Insertion, partsIn, areaRefusal, insertRefusal, insertAnswer, insertLeaves, leavesFor, leavesUnless, partsRefusal, areaAnswer, areaLeaves, withRow, withRules}
+use Rattle.map_law.specs.Insertions.{Insertion, partsIn, areaRefusal, insertRefusal, insertAnswer, insertLeaves, leavesFor, leavesUnless, partsRefusal, areaAnswer, areaLeaves, withRow, withRules}
 use Rattle.area_map.proofs.AddedLaws.{rule-added}
-use Rattle.area_map.proofs.ArgumentLaws.{parts-stand}
+use Rattle.map_law.proofs.ArgumentLaws.{parts-stand}
 
 -- What is answered and left: behind 2 and 3, of an area's parts; and of a whole insertion.
 abbrev pub AreaCase : List ℕ → Parts → List ℕ → ℕ → Outcome ℕ → List ℕ → Type 0

@@ -1,4 +1,4 @@
-// Making a map, and putting a rule into one whose sheet and area were tested. They are not open to a caller.
+// Putting a rule into a map whose sheet and area were tested. They are not open to a caller.
 
 use area::Area;
 use map_form::MAP_FRONT;
@@ -9,51 +9,22 @@ use willow::Limits;
 use willow::Refusal;
 use willow::Tested;
 ghost use mathlib.Core.Bool.{true};
-ghost use mathlib.Core.List.{[]};
 ghost use mathlib.Core.Path.{_≡_};
 ghost use Prim.Native.Nat.{_+_, _*_, _<_, _≤_};
 ghost use lib.ListN.{length};
-ghost use Rattle.willow.specs.Answers.{countedOutcome, pathIn, writtenBuffer, writtenLength};
-ghost use Rattle.willow.specs.Limits.{Accepted, maxCapacity};
+ghost use Rattle.willow.specs.Answers.{countedOutcome, pathIn};
 ghost use Rattle.willow.specs.Numbers.{le};
 ghost use Rattle.willow.specs.Paths.{Path, pathLength};
 ghost use Rattle.willow.specs.Refusals.{value};
 ghost use Rattle.number.specs.Records.{laid};
 ghost use Rattle.packed.specs.Readable.{Readable};
 ghost use Rattle.sheet.specs.Cells.{cellSizeOf};
-ghost use Rattle.sheet.specs.Rows.{Room, sheetLength};
+ghost use Rattle.sheet.specs.Rows.{Room};
 ghost use Rattle.area.specs.LentAreas.{areaAt, areaIn};
-ghost use Rattle.map_form.specs.Maps.{mapHeadSize, mapLayout, mapShape, ruleNumbers, sizesIn};
+ghost use Rattle.map_form.specs.Maps.{mapHeadSize, mapShape, ruleNumbers, sizesIn};
 ghost use Rattle.map_form.specs.MapTest.{isMap};
 ghost use Rattle.area_kinds.specs.AreaKinds.{parts};
-ghost use Rattle.area_map.specs.Insertions.{areaAnswer, areaLeaves, withRow};
-
-// How long a map is.
-fn map_length(limits: Limits, capacity: usize) -> usize
-    requires { ⌜ Accepted limits × (capacity ≤ maxCapacity) ⌝ }
-    ensures { λ r. ⌜ r ≡ sheetLength (mapShape (record { limits = limits; capacity = capacity })) ⌝ }
-{
-    let cell = 8 * (limits.mcc as usize + 1) + limits.mpl as usize;
-    MAP_FRONT + MAP_HEAD * capacity + cell * capacity
-}
-
-// A fresh map of accepted sizes: its header, and zeros.
-pub fn make(limits: Limits, capacity: u64, out: &mut [u8]) -> Counted
-    requires { ⌜ Accepted limits × (capacity ≤ maxCapacity) ⌝ }
-    ensures { λ r. ⌜ countedOutcome r ≡ writtenLength (value (mapLayout (record { limits = limits; capacity = capacity }) [])) (now (out .entry)) ⌝ }
-    ensures { λ _. ⌜ now (out .exit) ≡ writtenBuffer (value (mapLayout (record { limits = limits; capacity = capacity }) [])) (now (out .entry)) ⌝ }
-{
-    let length = map_length(limits, capacity as usize);
-    if out.len() < length {
-        return Counted::Refused(Refusal::OutTooSmall);
-    }
-    number::zero(out, 0, length);
-    number::write_u64(out, 0, limits.mcl);
-    number::write_u64(out, 8, limits.mcc);
-    number::write_u64(out, 16, limits.mpl);
-    number::write_u64(out, 24, capacity);
-    Counted::Count(length as u64)
-}
+ghost use Rattle.map_law.specs.Insertions.{areaAnswer, areaLeaves, withRow};
 
 // The numbers of a rule's head, one behind the other.
 fn write_head(head: &mut [u8], area: Area, value: u64)
@@ -101,7 +72,7 @@ pub fn insert(sheet: &mut [u8], limits: Limits, area: Area, base: &[u8], value: 
     ensures { λ r. ⌜ countedOutcome r ≡ areaAnswer (now (sheet .entry)) (parts area) (now (base .entry)) ⌝ }
     ensures { λ _. ⌜ now (sheet .exit) ≡ areaLeaves (now (sheet .entry)) (parts area) (now (base .entry)) value ⌝ }
 {
-    match reading::test(limits, base, area.count) {
+    match lent_path::test(limits, base, area.count) {
         Tested::Refused(r) => Counted::Refused(r),
         Tested::Fine => {
             let capacity = number::read_u64(sheet, 24);

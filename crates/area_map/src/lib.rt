@@ -1,5 +1,5 @@
-// The area map (grouping/area.rs, `AreaMap`) as a sheet in lent memory (document 01, "Sheets"): made fresh, and rules inserted. The
-// map's limits and capacity stand in the sheet itself.
+// The area map (grouping/area.rs, `AreaMap`) as a sheet in lent memory (document 01, "Sheets"): rules inserted. The map's limits and
+// capacity stand in the sheet itself. What every list of insertions into a fresh map leaves is `MapTheorem` (crate `map_law`).
 
 pub mod inner;
 
@@ -8,21 +8,8 @@ use willow::Counted;
 use willow::Limits;
 use willow::Refusal;
 ghost use mathlib.Core.Path.{_≡_};
-ghost use Rattle.willow.specs.Answers.{countedOutcome, writtenBuffer, writtenLength};
-ghost use Rattle.area_map.specs.Insertions.{freshMap, insertAnswer, insertion, insertLeaves};
-
-// A fresh map of these sizes written to the front of a buffer, of which nothing is read; answers its length. Refuses 1, then 15.
-pub fn fresh(limits: Limits, capacity: u64, out: &mut [u8]) -> Counted
-    ensures { λ r. ⌜ countedOutcome r ≡ writtenLength (freshMap limits capacity) (now (out .entry)) ⌝ }
-    ensures { λ _. ⌜ now (out .exit) ≡ writtenBuffer (freshMap limits capacity) (now (out .entry)) ⌝ }
-{
-    if willow::limits_accepted(limits) {
-        if willow::capacity_accepted(capacity) {
-            return inner::make(limits, capacity, out);
-        }
-    }
-    Counted::Refused(Refusal::BadLimits)
-}
+ghost use Rattle.willow.specs.Answers.{countedOutcome};
+ghost use Rattle.map_law.specs.Insertions.{insertAnswer, insertion, insertLeaves};
 
 // An area with a value inserted behind the others; answers the position that it took. The area comes as its kinds and numbers, its
 // path as a buffer with a count. Refuses 2, then 3, then 5, then 14.

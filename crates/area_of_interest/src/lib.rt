@@ -117,7 +117,7 @@ pub fn compare(
 {
     let a = interest.area;
     let b = other.area;
-    match area::compare(limits, a, base, b, base2) {
+    match area_questions::compare(limits, a, base, b, base2) {
         Compared::Refused(r) => Compared::Refused(r),
         Compared::Is(o) => match o {
             Order::Less => Compared::Is(Order::Less),

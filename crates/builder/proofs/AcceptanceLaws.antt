@@ -21,7 +21,7 @@ use Rattle.willow.proofs.PackedLaws.{packed-form, pack-length}
 use Rattle.willow.proofs.ValidLaws.{path-length-append}
 use Rattle.number.specs.Overwriting.{overwrite}
 use Rattle.number.proofs.OverwritingLaws.{overwrite-at-front}
-use Rattle.reading.proofs.QuestionLaws.{prefix-in}
+use Rattle.lent_path.proofs.LentLaws.{prefix-in}
 use Rattle.builder_parts.specs.Buffer.{sizeOf, partial}
 use Rattle.builder.specs.declared.Builder.{Builder}
 use Rattle.builder.specs.Building.{limitsOf, declaredSize, Holds, longEnough, declaredRefusal, stateRefusal, knownLength, stateOf, newRefusal, prefixRefusal, appendRefusal, grown, grownBuffer, buildRefusal}

@@ -21,8 +21,8 @@ use Rattle.willow.specs.Refusals.{refused, value}
 use Rattle.willow.proofs.AnswerLaws.{or-else-none}
 use Rattle.willow.proofs.Bools.{neither-true}
 use Rattle.packed.specs.Readable.{Readable}
-use Rattle.reading.proofs.QuestionLaws.{readable-prefix}
-use Rattle.reading.proofs.TestLaws.{readable}
+use Rattle.lent_path.proofs.LentLaws.{readable-prefix}
+use Rattle.lent_path.proofs.TestLaws.{readable}
 use Rattle.builder_parts.specs.Buffer.{sizeOf, Next}
 use Rattle.builder.specs.declared.Builder.{Builder}
 use Rattle.builder.specs.Building.{declaredSize, limitsOf, appendedPath, longEnough, declaredRefusal, roomRefusal, stateRefusal, knownLength, overfilled, lengthShort, unfinished, byRefusal, stateOf, newRefusal, prefixRefusal, appendRefusal, buildRefusal, keptState}

@@ -24,7 +24,7 @@ use Rattle.willow.proofs.PackedLaws.{pack-length}
 use Rattle.willow.proofs.ValidLaws.{path-length-append, path-length-take}
 use Rattle.number.specs.Overwriting.{overwrite}
 use Rattle.number.proofs.OverwritingLaws.{length-overwrite, overwrite-at-front, overwrite-twice}
-use Rattle.reading.proofs.QuestionLaws.{prefix-in}
+use Rattle.lent_path.proofs.LentLaws.{prefix-in}
 use Rattle.construction.specs.Making.{underLimits, slicesOutcome}
 use Rattle.builder_parts.specs.Buffer.{sizeOf, partial}
 use Rattle.builder_parts.proofs.BufferLaws.{partial-length}

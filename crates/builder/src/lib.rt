@@ -116,7 +116,7 @@ fn prefix_test(s: Builder, b: &[u8], k: u64, out: &[u8]) -> Tested
         mcc: s.mcc,
         mpl: s.mpl,
     };
-    let t = reading::test(limits, b, k);
+    let t = lent_path::test(limits, b, k);
     let Tested::Fine = t else {
         return t;
     };

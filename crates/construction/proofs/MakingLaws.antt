@@ -28,8 +28,8 @@ use Rattle.willow.proofs.ConstructionLaws.{construction, valid-admitted}
 use Rattle.willow.proofs.NumberLaws.{le-length, unle-le}
 use Rattle.number.specs.Overwriting.{overwrite, zeros}
 use Rattle.number.proofs.OverwritingLaws.{overwrite-all, length-zeros, number-zeros}
-use Rattle.reading.proofs.QuestionLaws.{asked}
-use Rattle.reading.proofs.TestLaws.{readable}
+use Rattle.lent_path.proofs.LentLaws.{asked}
+use Rattle.lent_path.proofs.TestLaws.{readable}
 use Rattle.construction.specs.Making.{outcomeRefusal, refusedAs, underLimits, slicesOutcome, iterOutcome, emptyOutcome, singletonOutcome, appendedOf, slicesAppendedOf, Extendable}
 use Rattle.construction.proofs.AdmissionLaws.{whole}
 

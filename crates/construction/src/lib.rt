@@ -142,7 +142,7 @@ pub fn append_slice(
     ensures { λ r. ⌜ countedOutcome r ≡ writtenLength (packedOutcome (onPath limits (now (b .entry)) count (slicesAppendedOf limits (now (lengths .entry)) (now (bytes .entry))))) (now (out .entry)) ⌝ }
     ensures { λ _. ⌜ now (out .exit) ≡ writtenBuffer (packedOutcome (onPath limits (now (b .entry)) count (slicesAppendedOf limits (now (lengths .entry)) (now (bytes .entry))))) (now (out .entry)) ⌝ }
 {
-    let t = reading::test(limits, b, count);
+    let t = lent_path::test(limits, b, count);
     let Tested::Fine = t else {
         return refuse(t);
     };

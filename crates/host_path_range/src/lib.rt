@@ -10,9 +10,6 @@ use convention::compared;
 use path_kinds::EndRead;
 use path_kinds::RangeRead;
 use path_kinds::RangesRead;
-use path_range_intersection::EndSide;
-use path_range_intersection::Side;
-use path_range_intersection::SidesMet;
 use willow::Asked;
 use willow::Compared;
 use willow::Limits;
@@ -28,78 +25,7 @@ ghost use Rattle.kinds.specs.Kinds.{both, onKinds};
 ghost use Rattle.path_bounds.specs.LentPaths.{onLent};
 ghost use Rattle.path_bounds.specs.LentRanges.{endPaths, pathEndOf, pathRangeOf, rangePaths};
 ghost use Rattle.path_range.specs.PathRanges.{isSome};
-ghost use Rattle.path_range_intersection.specs.Sides.{metOutcome, sidesMet};
 ghost use Rattle.path_kinds.specs.PathKinds.{pathEndFrom, pathRangeFrom};
-ghost use Rattle.host_path_range.specs.PathRangeExports.{endSideKind, endSideNumber, givenSides, noSides, sideNumber};
-
-// An intersection as an answer: 0, a refusal's number or 255 for none; whose start stands (0 the first's, 1 the second's), the kind of
-// its end, and whose end stands; zeros unless there is one, and 0 beside kind 0.
-#[repr(C)]
-pub struct SidesAnswer {
-    pub status: u64,
-    pub start: u64,
-    pub end_kind: u64,
-    pub end: u64,
-}
-
-// Whose start stands.
-fn side_number(side: Side) -> u64
-    ensures { λ r. ⌜ r ≡ sideNumber side ⌝ }
-{
-    match side {
-        Side::First => 0,
-        Side::Second => 1,
-    }
-}
-
-// Whether an end stands, and whose.
-fn end_side_kind(side: EndSide) -> u64
-    ensures { λ r. ⌜ r ≡ endSideKind side ⌝ }
-{
-    match side {
-        EndSide::First => 1,
-        EndSide::Second => 1,
-        EndSide::Open => 0,
-    }
-}
-
-fn end_side_number(side: EndSide) -> u64
-    ensures { λ r. ⌜ r ≡ endSideNumber side ⌝ }
-{
-    match side {
-        EndSide::First => 0,
-        EndSide::Second => 1,
-        EndSide::Open => 0,
-    }
-}
-
-// No intersection: why.
-fn no_sides(status: u64) -> SidesAnswer
-    ensures { λ r. ⌜ r ≡ noSides status ⌝ }
-{
-    SidesAnswer {
-        status,
-        start: 0,
-        end_kind: 0,
-        end: 0,
-    }
-}
-
-// An intersection that there may not be.
-fn met(m: SidesMet) -> SidesAnswer
-    ensures { λ r. ⌜ r ≡ givenSides (metOutcome m) ⌝ }
-{
-    match m {
-        SidesMet::Refused(r) => no_sides(willow::refusal_number(r)),
-        SidesMet::Nothing => no_sides(255),
-        SidesMet::Are(a, b) => SidesAnswer {
-            status: 0,
-            start: side_number(a),
-            end_kind: end_side_kind(b),
-            end: end_side_number(b),
-        },
-    }
-}
 
 // Whether an end is above a path.
 #[no_mangle]
@@ -209,35 +135,6 @@ pub extern "C" fn wotskrale_path_range_includes_range(
     match path_kinds::read_ranges(limits, start, kind, end, start2, kind2, end2) {
         RangesRead::Refused(r) => asked(Asked::Refused(r)),
         RangesRead::Are(a, b) => asked(path_range::includes_range(limits, a, s, e, b, s2, e2)),
-    }
-}
-
-// Whose start and whose end the range of the paths in both has.
-#[no_mangle]
-pub extern "C" fn wotskrale_path_range_intersection(
-    mcl: u64,
-    mcc: u64,
-    mpl: u64,
-    s: &[u8],
-    start: u64,
-    kind: u64,
-    e: &[u8],
-    end: u64,
-    s2: &[u8],
-    start2: u64,
-    kind2: u64,
-    e2: &[u8],
-    end2: u64,
-) -> SidesAnswer
-    ensures { λ r. ⌜ r ≡ givenSides (onKinds (limitsOf mcl mcc mpl) (both (pathRangeFrom start kind end) (pathRangeFrom start2 kind2 end2)) (λ x. onLent (limitsOf mcl mcc mpl) (rangePaths (x .0) (now (s .entry)) (now (e .entry)) ++ rangePaths (x .1) (now (s2 .entry)) (now (e2 .entry))) (sidesMet comparePaths (pathRangeOf (x .0) (now (s .entry)) (now (e .entry))) (pathRangeOf (x .1) (now (s2 .entry)) (now (e2 .entry)))))) ⌝ }
-{
-    let limits = Limits { mcl, mcc, mpl };
-    match path_kinds::read_ranges(limits, start, kind, end, start2, kind2, end2) {
-        RangesRead::Refused(r) => met(SidesMet::Refused(r)),
-        RangesRead::Are(a, b) => {
-            let m = path_range_intersection::intersection(limits, a, s, e, b, s2, e2);
-            met(m)
-        }
     }
 }
 

@@ -11,7 +11,8 @@ use convention::tested;
 use willow::Limits;
 ghost use mathlib.Core.Path.{_≡_};
 ghost use Rattle.willow.specs.Answers.{onPath, pathRefusal};
-ghost use Rattle.reading.specs.Reading.{componentLengthOf, componentRefusal, countOf, emptinessOf, lengthOf, prefixCountOf, prefixLengthOf};
+ghost use Rattle.lent_path.specs.LentTests.{componentRefusal};
+ghost use Rattle.reading.specs.Reading.{componentLengthOf, countOf, emptinessOf, lengthOf, prefixCountOf, prefixLengthOf};
 ghost use Rattle.convention.specs.Exports.{given, itself, limitsOf, refusalStatus, yesNumber};
 
 // Whether a buffer with a count is a path: 0, 1 or 5.
@@ -19,7 +20,7 @@ ghost use Rattle.convention.specs.Exports.{given, itself, limitsOf, refusalStat
 pub extern "C" fn wotskrale_path_test(mcl: u64, mcc: u64, mpl: u64, b: &[u8], count: u64) -> u64
     ensures { λ r. ⌜ r ≡ refusalStatus (pathRefusal (limitsOf mcl mcc mpl) (now (b .entry)) count) ⌝ }
 {
-    tested(reading::test(Limits { mcl, mcc, mpl }, b, count))
+    tested(lent_path::test(Limits { mcl, mcc, mpl }, b, count))
 }
 
 // Whether bytes are a component: 0, 1 or 9.
@@ -27,7 +28,7 @@ pub extern "C" fn wotskrale_path_test(mcl: u64, mcc: u64, mpl: u64, b: &[u8], co
 pub extern "C" fn wotskrale_component_test(mcl: u64, mcc: u64, mpl: u64, c: &[u8]) -> u64
     ensures { λ r. ⌜ r ≡ refusalStatus (componentRefusal (limitsOf mcl mcc mpl) (now (c .entry))) ⌝ }
 {
-    tested(reading::test_component(Limits { mcl, mcc, mpl }, c))
+    tested(lent_path::test_component(Limits { mcl, mcc, mpl }, c))
 }
 
 // How many components.

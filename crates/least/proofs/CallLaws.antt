@@ -19,7 +19,7 @@ use Rattle.willow.proofs.AnswerLaws.{path-passed}
 use Rattle.willow.proofs.PackedLaws.{tested, unpack-valid}
 use Rattle.packed.specs.Readable.{Readable}
 use Rattle.packed.proofs.PrefixLaws.{front, front-component}
-use Rattle.reading.proofs.QuestionLaws.{readable-prefix}
+use Rattle.lent_path.proofs.LentLaws.{readable-prefix}
 use Rattle.least.specs.declared.Place.{Place}
 use Rattle.least.specs.declared.Place.the-variants as place
 use Rattle.least.specs.Places.{withTail, placed, Bounded, Tailed, Found, pathOr, successorOf, nextGreaterOf}

@@ -19,7 +19,7 @@ use Rattle.willow.specs.Packed.{lengthBefore, unpack}
 use Rattle.willow.proofs.ValidLaws.{path-length-append}
 use Rattle.packed.specs.Readable.{Readable}
 use Rattle.packed.proofs.PrefixLaws.{front, front-component}
-use Rattle.reading.proofs.QuestionLaws.{prefix-in, readable-prefix}
+use Rattle.lent_path.proofs.LentLaws.{prefix-in, readable-prefix}
 use Rattle.least.specs.declared.Place.the-variants as place
 use Rattle.least.specs.Places.{withTail, placed}
 

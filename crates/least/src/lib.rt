@@ -117,7 +117,7 @@ pub fn greater_but_not_prefixed(limits: Limits, b: &[u8], count: u64, out: &mut 
     ensures { λ r. ⌜ countedOutcome r ≡ writtenLength (packedOutcome (onPath limits (now (b .entry)) count (nextGreaterOf limits))) (now (out .entry)) ⌝ }
     ensures { λ _. ⌜ now (out .exit) ≡ writtenBuffer (packedOutcome (onPath limits (now (b .entry)) count (nextGreaterOf limits))) (now (out .entry)) ⌝ }
 {
-    let t = reading::test(limits, b, count);
+    let t = lent_path::test(limits, b, count);
     match t {
         Tested::Refused(r) => Counted::Refused(r),
         Tested::Fine => write_place(b, count as usize, search(limits, b, count as usize), out),
@@ -142,7 +142,7 @@ pub fn successor(limits: Limits, b: &[u8], count: u64, out: &mut [u8]) -> Counte
     ensures { λ r. ⌜ countedOutcome r ≡ writtenLength (packedOutcome (onPath limits (now (b .entry)) count (successorOf limits))) (now (out .entry)) ⌝ }
     ensures { λ _. ⌜ now (out .exit) ≡ writtenBuffer (packedOutcome (onPath limits (now (b .entry)) count (successorOf limits))) (now (out .entry)) ⌝ }
 {
-    let t = reading::test(limits, b, count);
+    let t = lent_path::test(limits, b, count);
     match t {
         Tested::Refused(r) => Counted::Refused(r),
         Tested::Fine => write_successor(limits, b, count as usize, out),

@@ -32,7 +32,7 @@ use Rattle.map_form.specs.MapTest.{isMap}
 use Rattle.map_form.proofs.MapTestLaws.{map-passed}
 use Rattle.map_rules.specs.RulePlaces.{mapRow}
 use Rattle.map_rules.proofs.RowReadLaws.{part-whole}
-use Rattle.area_map.specs.Insertions.{AreaArgument, partsIn, kindsMissing, areaRefusal, areaPassed}
+use Rattle.map_law.specs.Insertions.{AreaArgument, partsIn, kindsMissing, areaRefusal, areaPassed}
 use Rattle.map_listing.specs.Listings.{positions, positionsFor, listing, listedNumber, listedBytes}
 use Rattle.map_listing.specs.Rules.{countOutcome, ruleAt, ruleParts, ruleRead, rulePath}
 use Rattle.map_listing.proofs.RuleAtLaws.{rule-at}

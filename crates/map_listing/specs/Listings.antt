@@ -16,7 +16,7 @@ use Rattle.willow.specs.Refusals.{Outcome, refused, absent, value}
 use Rattle.number.specs.Records.{laid}
 use Rattle.area_kinds.specs.AreaKinds.{Parts}
 use Rattle.map_form.specs.Maps.{Rule, rulesIn}
-use Rattle.area_map.specs.Insertions.{AreaArgument, partsIn, areaRefusal, areaPassed}
+use Rattle.map_law.specs.Insertions.{AreaArgument, partsIn, areaRefusal, areaPassed}
 
 -- Computed: a rule's area and another have an intersection.
 abbrev pub isSome : {A : Type 0} → Option A → Bool

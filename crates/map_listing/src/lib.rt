@@ -12,7 +12,7 @@ use willow::Tested;
 ghost use mathlib.Core.Path.{_≡_};
 ghost use Rattle.willow.specs.Answers.{countedOutcome, writtenBuffer, writtenLength};
 ghost use Rattle.reading.specs.Reading.{bytesOr};
-ghost use Rattle.area_map.specs.Insertions.{argument};
+ghost use Rattle.map_law.specs.Insertions.{argument};
 ghost use Rattle.map_listing.specs.Listings.{listedBytes, listedNumber, listing};
 ghost use Rattle.map_listing.specs.Rules.{countOutcome, ruleOutcome, rulePath, ruleRead};
 
@@ -96,7 +96,7 @@ pub fn intersecting(
         };
         return match area_kinds::read_area(limits, kind, id, count, start, end_kind, end) {
             AreaRead::Refused(r) => Counted::Refused(r),
-            AreaRead::Is(area) => match reading::test(limits, base, area.count) {
+            AreaRead::Is(area) => match lent_path::test(limits, base, area.count) {
                 Tested::Refused(r) => Counted::Refused(r),
                 Tested::Fine => inner::list(sheet, area, base, out),
             },

@@ -21,7 +21,7 @@ use Rattle.willow.proofs.Bools.{decided-false}
 use Rattle.willow.proofs.LimitLaws.{limit-laws}
 use Rattle.willow.proofs.PackedLaws.{packed-form}
 use Rattle.packed.specs.Readable.{Readable}
-use Rattle.reading.proofs.TestLaws.{readable}
+use Rattle.lent_path.proofs.TestLaws.{readable}
 use Rattle.path_bounds.specs.declared.PathEnd.{PathEnd}
 use Rattle.path_bounds.specs.declared.PathEnd.the-variants.{Closed, Open}
 use Rattle.path_bounds.specs.declared.PathRange.{PathRange}

@@ -46,7 +46,7 @@ pub fn test_end(limits: Limits, end: PathEnd, e: &[u8]) -> Tested
     ensures { λ r. ⌜ testedRefusal r ≡ lentPathsRefusal limits (endPaths end (now (e .entry))) ⌝ }
 {
     match end {
-        PathEnd::Closed(k) => reading::test(limits, e, k),
+        PathEnd::Closed(k) => lent_path::test(limits, e, k),
         PathEnd::Open => test_limits(limits),
     }
 }
@@ -57,7 +57,7 @@ pub fn test_end_and_path(limits: Limits, end: PathEnd, e: &[u8], path: &[u8], co
 {
     match test_end(limits, end, e) {
         Tested::Refused(r) => Tested::Refused(r),
-        Tested::Fine => reading::test(limits, path, count),
+        Tested::Fine => lent_path::test(limits, path, count),
     }
 }
 
@@ -119,7 +119,7 @@ pub fn test_range(limits: Limits, range: PathRange, s: &[u8], e: &[u8]) -> Teste
     ensures { λ r. ⌜ testedRefusal r ≡ lentPathsRefusal limits (rangePaths range (now (s .entry)) (now (e .entry))) ⌝ }
 {
     let end = range.end;
-    match reading::test(limits, s, range.start) {
+    match lent_path::test(limits, s, range.start) {
         Tested::Refused(r) => Tested::Refused(r),
         Tested::Fine => test_end(limits, end, e),
     }
@@ -138,7 +138,7 @@ pub fn test_range_and_path(
 {
     match test_range(limits, range, s, e) {
         Tested::Refused(r) => Tested::Refused(r),
-        Tested::Fine => reading::test(limits, path, count),
+        Tested::Fine => lent_path::test(limits, path, count),
     }
 }
 

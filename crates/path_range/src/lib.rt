@@ -61,7 +61,7 @@ pub fn full() -> PathRange
 pub fn new_closed(limits: Limits, s: &[u8], cs: u64, e: &[u8], ce: u64) -> Asked
     ensures { λ r. ⌜ askedOutcome r ≡ onPaths limits (now (s .entry)) cs (now (e .entry)) ce (λ p q. value (isSome (newClosed comparePaths p q))) ⌝ }
 {
-    let t = reading::test_two(limits, s, cs, e, ce);
+    let t = lent_path::test_two(limits, s, cs, e, ce);
     match t {
         Tested::Refused(r) => Asked::Refused(r),
         Tested::Fine => match paths::compare(s, cs as usize, e, ce as usize) {

@@ -1,72 +1,20 @@
-// Questions on one lent path (path/mod.rs). A path is a lent buffer in packed form with a count beside it. Every call takes
-// limits, buffers and counts as they come, refuses 1, then 5, and answers a question on the path that was lent.
+// Questions on one lent path (path/mod.rs). Every call takes limits, a buffer and a count as they come, refuses 1, then 5, and answers
+// a question on the path that was lent.
 
 use packed::inner;
 use willow::Asked;
 use willow::Counted;
 use willow::Limits;
-use willow::Refusal;
 use willow::Tested;
 ghost use mathlib.Core.Path.{_≡_};
-ghost use Rattle.willow.specs.Answers.{askedOutcome, countedOutcome, onPath, pathRefusal, pathsRefusal, testedRefusal};
-ghost use Rattle.reading.specs.Reading.{bytesOr, componentLengthOf, componentOf, componentRefusal, countOf, emptinessOf, isLent, lengthOf, prefixCountOf, prefixLengthOf};
-
-// Whether the buffer is a packed path under the limits, and the count not above the one in it.
-fn is_lent(limits: Limits, b: &[u8], count: u64) -> bool
-    ensures { λ r. ⌜ r ≡ isLent limits (now (b .entry)) count ⌝ }
-{
-    if inner::well_formed(limits, b) {
-        return count <= number::read_u64(b, 0);
-    }
-    false
-}
-
-// The test of a lent path: 1, then 5.
-pub fn test(limits: Limits, b: &[u8], count: u64) -> Tested
-    ensures { λ r. ⌜ testedRefusal r ≡ pathRefusal limits (now (b .entry)) count ⌝ }
-{
-    if willow::limits_accepted(limits) {
-        if is_lent(limits, b, count) {
-            return Tested::Fine;
-        }
-        return Tested::Refused(Refusal::BadPath);
-    }
-    Tested::Refused(Refusal::BadLimits)
-}
-
-// The test of two lent paths: 1, then 5 for either.
-pub fn test_two(limits: Limits, a: &[u8], ca: u64, b: &[u8], cb: u64) -> Tested
-    ensures { λ r. ⌜ testedRefusal r ≡ pathsRefusal limits (now (a .entry)) ca (now (b .entry)) cb ⌝ }
-{
-    if willow::limits_accepted(limits) {
-        if is_lent(limits, a, ca) {
-            if is_lent(limits, b, cb) {
-                return Tested::Fine;
-            }
-        }
-        return Tested::Refused(Refusal::BadPath);
-    }
-    Tested::Refused(Refusal::BadLimits)
-}
-
-// `Component::new`: whether a component is within MCL; 1, then 9.
-pub fn test_component(limits: Limits, c: &[u8]) -> Tested
-    ensures { λ r. ⌜ testedRefusal r ≡ componentRefusal limits (now (c .entry)) ⌝ }
-{
-    if willow::limits_accepted(limits) {
-        if c.len() as u64 <= limits.mcl {
-            return Tested::Fine;
-        }
-        return Tested::Refused(Refusal::ComponentTooLong);
-    }
-    Tested::Refused(Refusal::BadLimits)
-}
+ghost use Rattle.willow.specs.Answers.{askedOutcome, countedOutcome, onPath};
+ghost use Rattle.reading.specs.Reading.{bytesOr, componentLengthOf, componentOf, countOf, emptinessOf, lengthOf, prefixCountOf, prefixLengthOf};
 
 // How many components.
 pub fn component_count(limits: Limits, b: &[u8], count: u64) -> Counted
     ensures { λ r. ⌜ countedOutcome r ≡ onPath limits (now (b .entry)) count countOf ⌝ }
 {
-    let t = test(limits, b, count);
+    let t = lent_path::test(limits, b, count);
     match t {
         Tested::Refused(r) => Counted::Refused(r),
         Tested::Fine => Counted::Count(count),
@@ -77,7 +25,7 @@ pub fn component_count(limits: Limits, b: &[u8], count: u64) -> Counted
 pub fn is_empty(limits: Limits, b: &[u8], count: u64) -> Asked
     ensures { λ r. ⌜ askedOutcome r ≡ onPath limits (now (b .entry)) count emptinessOf ⌝ }
 {
-    let t = test(limits, b, count);
+    let t = lent_path::test(limits, b, count);
     match t {
         Tested::Refused(r) => Asked::Refused(r),
         Tested::Fine => if count == 0 { Asked::Yes } else { Asked::No },
@@ -88,7 +36,7 @@ pub fn is_empty(limits: Limits, b: &[u8], count: u64) -> Asked
 pub fn path_length(limits: Limits, b: &[u8], count: u64) -> Counted
     ensures { λ r. ⌜ countedOutcome r ≡ onPath limits (now (b .entry)) count lengthOf ⌝ }
 {
-    let t = test(limits, b, count);
+    let t = lent_path::test(limits, b, count);
     match t {
         Tested::Refused(r) => Counted::Refused(r),
         Tested::Fine => Counted::Count(inner::path_length(b, count as usize) as u64),
@@ -99,7 +47,7 @@ pub fn path_length(limits: Limits, b: &[u8], count: u64) -> Counted
 pub fn path_length_of_prefix(limits: Limits, b: &[u8], count: u64, n: u64) -> Counted
     ensures { λ r. ⌜ countedOutcome r ≡ onPath limits (now (b .entry)) count (prefixLengthOf n) ⌝ }
 {
-    let t = test(limits, b, count);
+    let t = lent_path::test(limits, b, count);
     match t {
         Tested::Refused(r) => Counted::Refused(r),
         Tested::Fine => if n <= count {
@@ -114,7 +62,7 @@ pub fn path_length_of_prefix(limits: Limits, b: &[u8], count: u64, n: u64) -> Co
 pub fn create_prefix(limits: Limits, b: &[u8], count: u64, n: u64) -> Counted
     ensures { λ r. ⌜ countedOutcome r ≡ onPath limits (now (b .entry)) count (prefixCountOf n) ⌝ }
 {
-    let t = test(limits, b, count);
+    let t = lent_path::test(limits, b, count);
     match t {
         Tested::Refused(r) => Counted::Refused(r),
         Tested::Fine => if n <= count {
@@ -129,7 +77,7 @@ pub fn create_prefix(limits: Limits, b: &[u8], count: u64, n: u64) -> Counted
 pub fn component_length(limits: Limits, b: &[u8], count: u64, i: u64) -> Counted
     ensures { λ r. ⌜ countedOutcome r ≡ onPath limits (now (b .entry)) count (componentLengthOf i) ⌝ }
 {
-    let t = test(limits, b, count);
+    let t = lent_path::test(limits, b, count);
     match t {
         Tested::Refused(r) => Counted::Refused(r),
         Tested::Fine => if i < count {
@@ -144,7 +92,7 @@ pub fn component_length(limits: Limits, b: &[u8], count: u64, i: u64) -> Counted
 pub fn component<'a>(limits: Limits, b: &'a [u8], count: u64, i: u64) -> &'a [u8]
     ensures { λ r. ⌜ now r ≡ bytesOr (onPath limits (now (b .entry)) count (componentOf i)) ⌝ }
 {
-    let t = test(limits, b, count);
+    let t = lent_path::test(limits, b, count);
     match t {
         Tested::Refused(_) => &b[0..0],
         Tested::Fine => if i < count {

@@ -15,7 +15,7 @@ ghost use Rattle.relation.specs.Relation.{commonCountOf, equalityOf, ord
 pub fn compare(limits: Limits, a: &[u8], ca: u64, b: &[u8], cb: u64) -> Compared
     ensures { λ r. ⌜ comparedOutcome r ≡ onPaths limits (now (a .entry)) ca (now (b .entry)) cb orderOf ⌝ }
 {
-    let t = reading::test_two(limits, a, ca, b, cb);
+    let t = lent_path::test_two(limits, a, ca, b, cb);
     match t {
         Tested::Refused(r) => Compared::Refused(r),
         Tested::Fine => Compared::Is(inner::compare(a, ca as usize, b, cb as usize)),
@@ -26,7 +26,7 @@ pub fn compare(limits: Limits, a: &[u8], ca: u64, b: &[u8], cb: u64) -> Compared
 pub fn equal(limits: Limits, a: &[u8], ca: u64, b: &[u8], cb: u64) -> Asked
     ensures { λ r. ⌜ askedOutcome r ≡ onPaths limits (now (a .entry)) ca (now (b .entry)) cb equalityOf ⌝ }
 {
-    let t = reading::test_two(limits, a, ca, b, cb);
+    let t = lent_path::test_two(limits, a, ca, b, cb);
     match t {
         Tested::Refused(r) => Asked::Refused(r),
         Tested::Fine => if inner::is_equal(a, ca as usize, b, cb as usize) {
@@ -41,7 +41,7 @@ pub fn equal(limits: Limits, a: &[u8], ca: u64, b: &[u8], cb: u64) -> Asked
 pub fn is_prefix_of(limits: Limits, a: &[u8], ca: u64, b: &[u8], cb: u64) -> Asked
     ensures { λ r. ⌜ askedOutcome r ≡ onPaths limits (now (a .entry)) ca (now (b .entry)) cb prefixTestOf ⌝ }
 {
-    let t = reading::test_two(limits, a, ca, b, cb);
+    let t = lent_path::test_two(limits, a, ca, b, cb);
     match t {
         Tested::Refused(r) => Asked::Refused(r),
         Tested::Fine => if inner::is_prefix_of(a, ca as usize, b, cb as usize) {
@@ -56,7 +56,7 @@ pub fn is_prefix_of(limits: Limits, a: &[u8], ca: u64, b: &[u8], cb: u64) -> Ask
 pub fn is_prefixed_by(limits: Limits, a: &[u8], ca: u64, b: &[u8], cb: u64) -> Asked
     ensures { λ r. ⌜ askedOutcome r ≡ onPaths limits (now (a .entry)) ca (now (b .entry)) cb prefixedTestOf ⌝ }
 {
-    let t = reading::test_two(limits, a, ca, b, cb);
+    let t = lent_path::test_two(limits, a, ca, b, cb);
     match t {
         Tested::Refused(r) => Asked::Refused(r),
         Tested::Fine => if inner::is_prefix_of(b, cb as usize, a, ca as usize) {
@@ -71,7 +71,7 @@ pub fn is_prefixed_by(limits: Limits, a: &[u8], ca: u64, b: &[u8], cb: u64) -> A
 pub fn is_related(limits: Limits, a: &[u8], ca: u64, b: &[u8], cb: u64) -> Asked
     ensures { λ r. ⌜ askedOutcome r ≡ onPaths limits (now (a .entry)) ca (now (b .entry)) cb relatednessOf ⌝ }
 {
-    let t = reading::test_two(limits, a, ca, b, cb);
+    let t = lent_path::test_two(limits, a, ca, b, cb);
     match t {
         Tested::Refused(r) => Asked::Refused(r),
         Tested::Fine => if inner::is_related(a, ca as usize, b, cb as usize) {
@@ -86,7 +86,7 @@ pub fn is_related(limits: Limits, a: &[u8], ca: u64, b: &[u8], cb: u64) -> Asked
 pub fn longest_common_prefix(limits: Limits, a: &[u8], ca: u64, b: &[u8], cb: u64) -> Counted
     ensures { λ r. ⌜ countedOutcome r ≡ onPaths limits (now (a .entry)) ca (now (b .entry)) cb commonCountOf ⌝ }
 {
-    let t = reading::test_two(limits, a, ca, b, cb);
+    let t = lent_path::test_two(limits, a, ca, b, cb);
     match t {
         Tested::Refused(r) => Counted::Refused(r),
         Tested::Fine => Counted::Count(inner::common(a, ca as usize, b, cb as usize) as u64),

@@ -16,7 +16,7 @@ use Rattle.sheet.proofs.LayoutLaws.{filled}
 use Rattle.sheet.proofs.RowLaws.{fitting-take, fitting-drop, fitting-append, fitting-filter, fitting-zeros, fitting-rows, rows-with, with-with}
 use Rattle.store_form.specs.Stores.{storeShape, entryRow}
 use Rattle.store_rows.specs.EntryRows.{sizesOf}
-use Rattle.store_filing.specs.Filing.{staysBy, closedUp, putAt}
+use Rattle.store_closing.specs.Filing.{staysBy, closedUp, putAt}
 use Rattle.store.specs.Taking.{rowsLeft, filedRows}
 
 -- A new one at i.

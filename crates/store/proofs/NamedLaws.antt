@@ -15,7 +15,7 @@ use Rattle.store_form.specs.Stores.{entryRow, entryIn}
 use Rattle.store_form.proofs.EntryRows.{Passed, row-back, named}
 use Rattle.store_scan.specs.declared.Scan.{Scan}
 use Rattle.store_scan.specs.Scans.{met, scanned}
-use Rattle.store_filing.specs.Filing.{staysBy}
+use Rattle.store_closing.specs.Filing.{staysBy}
 
 module _ (m : ℕ) where
   named-prunes : (o e : Entry) → o .namespace ≡ e .namespace → prunes (named m o) (named m e) ≡ prunes o e

@@ -23,7 +23,7 @@ use Rattle.willow.proofs.PackedLaws.{pack-length, unpack-valid}
 use Rattle.willow.proofs.ValidLaws.{valid-take}
 use Rattle.number.specs.Overwriting.{overwrite}
 use Rattle.packed.proofs.PrefixLaws.{front}
-use Rattle.reading.proofs.TestLaws.{readable}
+use Rattle.lent_path.proofs.TestLaws.{readable}
 use Rattle.entry.specs.declared.Head.{Head}
 use Rattle.entry.specs.Heads.{entryAt}
 use Rattle.sheet.specs.Cells.{cellSizeOf}
@@ -36,7 +36,7 @@ use Rattle.store_form.proofs.ReadingLaws.{used-passed}
 use Rattle.store_rows.specs.EntryRows.{sizesOf, RowsReadable}
 use Rattle.store_scan.specs.declared.Scan.{Scan}
 use Rattle.store_scan.specs.Scans.{nothingMet, scanned}
-use Rattle.store_filing.specs.Filing.{staysBy, putAt}
+use Rattle.store_closing.specs.Filing.{staysBy, putAt}
 use Rattle.store.specs.declared.Offered.{Offered}
 use Rattle.store.specs.declared.Offered.the-variants as offered
 use Rattle.store.specs.Calls.{answerOf}

@@ -12,7 +12,7 @@ use Rattle.number.specs.Overwriting.{overwrite}
 use Rattle.sheet.specs.Rows.{Row, rowsOf, sheetLength, zeroRow}
 use Rattle.store_form.specs.Stores.{storeShape, storeLayout, entryRow, sizesIn, stateIn}
 use Rattle.store_rows.specs.EntryRows.{sizesOf}
-use Rattle.store_filing.specs.Filing.{staysBy, closedUp, putAt}
+use Rattle.store_closing.specs.Filing.{staysBy, closedUp, putAt}
 
 -- The answer to an entry of the store's namespace, and the bytes afterwards.
 abbrev pub entryAnswer : List ℕ → Entry → Answer

@@ -3,6 +3,7 @@
 
 use crate::Offered;
 use entry::Head;
+use store_closing::inner as closing;
 use store_filing::inner as filing;
 use store_form::STORE_FRONT;
 use store_form::STORE_HEAD;
@@ -101,7 +102,7 @@ fn file_rows(
     requires { ⌜ (length (rowsLeft limits capacity n (entryAt 0 head (pathIn (now path) count)) (now sheet)) < capacity) × (at ≤ length (rowsLeft limits capacity n (entryAt 0 head (pathIn (now path) count)) (now sheet))) ⌝ }
     ensures { λ _. ⌜ now (sheet .exit) ≡ withRows (storeShape (sizesOf limits capacity)) (now (sheet .entry)) (filedRows limits capacity n at (entryAt 0 head (pathIn (now (path .entry)) count)) (now (sheet .entry))) ⌝ }
 {
-    let left = filing::close_up(sheet, limits, capacity, n, head, path, count);
+    let left = closing::close_up(sheet, limits, capacity, n, head, path, count);
     filing::put_row(sheet, limits, capacity, left, at, head, path, count);
 }
 

@@ -51,7 +51,7 @@ pub fn offer(sheet: &mut [u8], namespace: u64, head: Head, path: &[u8], count: u
             mcc: number::read_u64(sheet, 8),
             mpl: number::read_u64(sheet, 16),
         };
-        return match reading::test(limits, path, count) {
+        return match lent_path::test(limits, path, count) {
             Tested::Refused(r) => Offered::Refused(r),
             Tested::Fine => inner::take_offer(sheet, limits, head, path, count as usize),
         };

@@ -1,3 +1,1 @@
-pub mod ClosingLaws
-pub mod PassLaws
 pub mod PuttingLaws

@@ -16,8 +16,8 @@ use Rattle.entry.specs.Heads.{entryAt}
 use Rattle.sheet.specs.Rows.{Shape, Row, Room, Fitting, cellsFrom, rowsOf, withRows}
 use Rattle.sheet.proofs.RowLaws.{fitting-part, fitting-overwrite, fitting-rows, rows-with, with-with, room-with, over-row}
 use Rattle.store_form.specs.Stores.{entryHead}
-use Rattle.store_filing.specs.Filing.{putAt}
-use Rattle.store_filing.proofs.ClosingLaws.{put-in}
+use Rattle.store_closing.specs.Filing.{putAt}
+use Rattle.store_closing.proofs.ClosingLaws.{put-in}
 
 -- a head in its 56 bytes
 pub head-written : (out a b c d : List ℕ) (h : Head) → length out ≡ 56 → length (h .digest) ≡ 32

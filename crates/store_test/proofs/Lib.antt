@@ -1,3 +1,1 @@
-pub mod LeftLaws
-pub mod CarryLaws
 pub mod PassLaws

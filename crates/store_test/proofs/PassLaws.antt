@@ -23,7 +23,7 @@ use Rattle.store_form.specs.Stores.{storeShape, sizesIn, countIn, heldIn, letGo
 use Rattle.store_form.specs.StoreTest.{every, entriesFit, rowsFit, sizesFit, isStore}
 use Rattle.store_form.proofs.TestedLaws.{every-all, SizesTested, passes, is-store-passes}
 use Rattle.store_rows.specs.EntryRows.{sizesOf, RowsReadable}
-use Rattle.store_test.proofs.LeftLaws.{used, entries}
+use Rattle.store_passes.proofs.LeftLaws.{used, entries}
 
 -- THE SIZES.
 module _ (z : Sizes) (n held letGo : ℕ) where

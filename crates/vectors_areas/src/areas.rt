@@ -11,7 +11,7 @@ use cases::arguments::given_buffer;
 use cases::arguments::given_name;
 use cases::pieces;
 use convention::Answer;
-use host_area::AreaAnswer;
+use host_area_intersection::AreaAnswer;
 
 fn print_area(a: AreaAnswer) {
     print_first(a.status);
@@ -132,7 +132,7 @@ fn almost_includes_area(line: &[u8], base: &[u8], base2: &[u8]) -> Answer {
 }
 
 fn intersection(line: &[u8], base: &[u8], base2: &[u8]) -> AreaAnswer {
-    host_area::wotskrale_area_intersection(
+    host_area_intersection::wotskrale_area_intersection(
         number(line, 1),
         number(line, 2),
         number(line, 3),

@@ -8,7 +8,7 @@ use case_forms::print_next;
 use cases::answers;
 use cases::arguments::given_buffer;
 use cases::arguments::given_room;
-use host_range_3d::ConvertedAnswer;
+use host_range_3d_conversion::ConvertedAnswer;
 use libc::STDOUT_FILENO;
 
 fn print_converted(a: ConvertedAnswer, out: &[u8]) {
@@ -30,7 +30,7 @@ fn print_converted(a: ConvertedAnswer, out: &[u8]) {
 
 // A call and its print take the same part of the output buffer.
 fn convert(line: &[u8], base: &[u8], out: &mut [u8]) {
-    let a = host_range_3d::wotskrale_range_3d_from_area(
+    let a = host_range_3d_conversion::wotskrale_range_3d_from_area(
         number(line, 1),
         number(line, 2),
         number(line, 3),

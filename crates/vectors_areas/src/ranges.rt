@@ -11,7 +11,7 @@ use cases::arguments::given_buffer;
 use cases::arguments::given_name;
 use cases::pieces;
 use convention::Answer;
-use host_range_3d::Range3dAnswer;
+use host_range_3d_intersection::Range3dAnswer;
 
 fn print_range(a: Range3dAnswer) {
     print_first(a.status);
@@ -138,7 +138,7 @@ fn includes_range(line: &[u8], s: &[u8], e: &[u8], s2: &[u8], e2: &[u8]) -> Answ
 }
 
 fn intersection(line: &[u8], s: &[u8], e: &[u8], s2: &[u8], e2: &[u8]) -> Range3dAnswer {
-    host_range_3d::wotskrale_range_3d_intersection(
+    host_range_3d_intersection::wotskrale_range_3d_intersection(
         number(line, 1),
         number(line, 2),
         number(line, 3),

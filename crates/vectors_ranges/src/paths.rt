@@ -11,7 +11,7 @@ use cases::arguments::given_buffer;
 use cases::arguments::given_name;
 use cases::pieces;
 use convention::Answer;
-use host_path_range::SidesAnswer;
+use host_path_range_intersection::SidesAnswer;
 
 fn print_sides(a: SidesAnswer) {
     print_first(a.status);
@@ -146,7 +146,7 @@ fn includes_range(line: &[u8], s: &[u8], e: &[u8], s2: &[u8], e2: &[u8]) -> Answ
 }
 
 fn intersection(line: &[u8], s: &[u8], e: &[u8], s2: &[u8], e2: &[u8]) -> SidesAnswer {
-    host_path_range::wotskrale_path_range_intersection(
+    host_path_range_intersection::wotskrale_path_range_intersection(
         number(line, 1),
         number(line, 2),
         number(line, 3),

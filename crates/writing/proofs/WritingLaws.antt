@@ -17,8 +17,8 @@ use Rattle.willow.proofs.PathLaws.{common-means}
 use Rattle.packed.specs.Readable.{Readable}
 use Rattle.writing.specs.Writing.{prefixOf, commonPrefixOf}
 use Rattle.packed.proofs.PrefixLaws.{front}
-use Rattle.reading.proofs.TestLaws.{readable-two, two-asked}
-use Rattle.reading.proofs.QuestionLaws.{prefix-in, asked, counted}
+use Rattle.lent_path.proofs.TestLaws.{readable-two, two-asked}
+use Rattle.lent_path.proofs.LentLaws.{prefix-in, asked, counted}
 
 -- What two paths have in common can be read of the first.
 pub common-within : (a : List ℕ) (j : ℕ) (q : Path) → Readable a j → commonCount (pathIn a j) q ≤ j

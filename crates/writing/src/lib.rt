@@ -45,7 +45,7 @@ pub fn write_component(limits: Limits, b: &[u8], count: u64, i: u64, out: &mut [
     ensures { λ r. ⌜ countedOutcome r ≡ writtenLength (onPath limits (now (b .entry)) count (componentOf i)) (now (out .entry)) ⌝ }
     ensures { λ _. ⌜ now (out .exit) ≡ writtenBuffer (onPath limits (now (b .entry)) count (componentOf i)) (now (out .entry)) ⌝ }
 {
-    let t = reading::test(limits, b, count);
+    let t = lent_path::test(limits, b, count);
     match t {
         Tested::Refused(r) => Counted::Refused(r),
         Tested::Fine => if i < count {
@@ -61,7 +61,7 @@ pub fn write_prefix(limits: Limits, b: &[u8], count: u64, n: u64, out: &mut [u8]
     ensures { λ r. ⌜ countedOutcome r ≡ writtenLength (packedOutcome (onPath limits (now (b .entry)) count (prefixOf n))) (now (out .entry)) ⌝ }
     ensures { λ _. ⌜ now (out .exit) ≡ writtenBuffer (packedOutcome (onPath limits (now (b .entry)) count (prefixOf n))) (now (out .entry)) ⌝ }
 {
-    let t = reading::test(limits, b, count);
+    let t = lent_path::test(limits, b, count);
     match t {
         Tested::Refused(r) => Counted::Refused(r),
         Tested::Fine => if n <= count {
@@ -84,7 +84,7 @@ pub fn write_longest_common_prefix(
     ensures { λ r. ⌜ countedOutcome r ≡ writtenLength (packedOutcome (onPaths limits (now (a .entry)) ca (now (b .entry)) cb commonPrefixOf)) (now (out .entry)) ⌝ }
     ensures { λ _. ⌜ now (out .exit) ≡ writtenBuffer (packedOutcome (onPaths limits (now (a .entry)) ca (now (b .entry)) cb commonPrefixOf)) (now (out .entry)) ⌝ }
 {
-    let t = reading::test_two(limits, a, ca, b, cb);
+    let t = lent_path::test_two(limits, a, ca, b, cb);
     match t {
         Tested::Refused(r) => Counted::Refused(r),
         Tested::Fine => write_first(a, inner::common(a, ca as usize, b, cb as usize), out),

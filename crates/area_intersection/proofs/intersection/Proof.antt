@@ -1,6 +1,6 @@
 -- The test refuses, and the question is refused alike; or it passes, and the inner function answers for the two areas.
 use mathlib.Core.Path.{_∙_}
-use Rattle.reading.proofs.TestLaws.{two-passed, two-refused, two-asked, readable-two}
+use Rattle.lent_path.proofs.TestLaws.{two-passed, two-refused, two-asked, readable-two}
 use borrow.Author.Needs.{needs}
 use Rattle.area_intersection.proofs.intersection.Statement.{statement}
 use Rattle.area_intersection.proofs.intersection.Tie as tie

@@ -1,7 +1,7 @@
 -- The test of the path refuses 1 and 5, the admission 6 to 9, each as the outcome says; what passes both is the outcome's path.
 use borrow.Author.Needs.{needs}
 use Rattle.willow.proofs.AnswerLaws.{path-passed, made-as}
-use Rattle.reading.proofs.TestLaws.{one-passed, one-refused, readable}
+use Rattle.lent_path.proofs.TestLaws.{one-passed, one-refused, readable}
 use Rattle.construction.specs.Making.{slicesAppendedOf}
 use Rattle.construction.proofs.MakingLaws.{made-refused, slices-refused, slices-made, slices-extendable}
 use Rattle.construction.proofs.append_slice.Statement.{statement}

@@ -3,8 +3,8 @@ use mathlib.Core.Path.{refl, sym, _∙_, ap}
 use denote.Ref.{now}
 use Rattle.willow.proofs.NumberLaws.{bytes-by-index}
 use Rattle.willow.proofs.AnswerLaws.{made-as}
-use Rattle.reading.proofs.TestLaws.{one-passed, one-refused, readable}
-use Rattle.reading.proofs.QuestionLaws.{asked}
+use Rattle.lent_path.proofs.TestLaws.{one-passed, one-refused, readable}
+use Rattle.lent_path.proofs.LentLaws.{asked}
 use Rattle.least.specs.Places.{pathOr, nextGreaterOf}
 use Rattle.least.proofs.CallLaws.{passed-bounded}
 use borrow.Author.Needs.{needs}

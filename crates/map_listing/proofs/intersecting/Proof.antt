@@ -5,9 +5,9 @@ use mathlib.Core.Bool.{true}
 use native.Mathlib.Omega.{arith}
 use denote.Ref.{now}
 use Rattle.willow.specs.declared.Limits.{Limits}
-use Rattle.reading.proofs.TestLaws.{one-passed, readable}
+use Rattle.lent_path.proofs.TestLaws.{one-passed, readable}
 use Rattle.area_kinds.specs.AreaKinds.{areaRead}
-use Rattle.area_map.specs.Insertions.{AreaArgument, argument}
+use Rattle.map_law.specs.Insertions.{AreaArgument, argument}
 use Rattle.map_form.specs.Maps.{sizesIn}
 use Rattle.map_form.specs.MapTest.{isMap}
 use Rattle.map_form.proofs.MapTestLaws.{map-passed}

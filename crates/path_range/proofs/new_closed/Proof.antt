@@ -8,7 +8,7 @@ use Rattle.willow.specs.Orders.{isLess}
 use Rattle.willow.specs.Paths.{comparePaths}
 use Rattle.willow.specs.Ranges.{newClosed}
 use Rattle.willow.specs.Refusals.{value}
-use Rattle.reading.proofs.TestLaws.{two-passed, two-refused, two-asked, readable-two}
+use Rattle.lent_path.proofs.TestLaws.{two-passed, two-refused, two-asked, readable-two}
 use Rattle.path_range.specs.PathRanges.{isSome}
 use Rattle.path_range.proofs.PathRangeLaws.{closed-by}
 use borrow.Author.Needs.{needs}

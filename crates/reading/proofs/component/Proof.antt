@@ -1,7 +1,8 @@
 -- The test refuses, and the question is refused alike; or it passes, and the question is asked of the path in the buffer.
 use mathlib.Core.Path.{ap}
-use Rattle.reading.proofs.TestLaws.{one-passed, one-refused, readable}
-use Rattle.reading.proofs.QuestionLaws.{component-there, component-asked, component-none}
+use Rattle.lent_path.proofs.TestLaws.{one-passed, one-refused, readable}
+use Rattle.lent_path.proofs.LentLaws.{component-there}
+use Rattle.reading.proofs.QuestionLaws.{component-asked, component-none}
 use Rattle.reading.specs.Reading.{bytesOr, componentOf}
 use borrow.Author.Needs.{needs}
 use Rattle.reading.proofs.component.Statement.{statement}

@@ -1,6 +1,7 @@
 -- The test refuses, and the question is refused alike; or it passes, and the question is asked of the path in the buffer.
-use Rattle.reading.proofs.TestLaws.{one-passed, one-refused, readable}
-use Rattle.reading.proofs.QuestionLaws.{component-there, component-length-asked, component-length-none}
+use Rattle.lent_path.proofs.TestLaws.{one-passed, one-refused, readable}
+use Rattle.lent_path.proofs.LentLaws.{component-there}
+use Rattle.reading.proofs.QuestionLaws.{component-length-asked, component-length-none}
 use Rattle.reading.specs.Reading.{componentLengthOf}
 use borrow.Author.Needs.{needs}
 use Rattle.reading.proofs.component_length.Statement.{statement}

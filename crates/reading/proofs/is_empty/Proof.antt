@@ -1,5 +1,5 @@
 -- The test refuses, and the question is refused alike; or it passes, and the question is asked of the path in the buffer.
-use Rattle.reading.proofs.TestLaws.{one-passed, one-refused}
+use Rattle.lent_path.proofs.TestLaws.{one-passed, one-refused}
 use borrow.Author.Tests.{eq-eqb, ne-eqb}
 use Rattle.reading.proofs.QuestionLaws.{empty-asked}
 use Rattle.reading.specs.Reading.{emptinessOf}

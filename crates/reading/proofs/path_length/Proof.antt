@@ -1,5 +1,5 @@
 -- The test refuses, and the question is refused alike; or it passes, and the question is asked of the path in the buffer.
-use Rattle.reading.proofs.TestLaws.{one-passed, one-refused, readable}
+use Rattle.lent_path.proofs.TestLaws.{one-passed, one-refused, readable}
 use Rattle.reading.proofs.QuestionLaws.{length-asked}
 use Rattle.reading.specs.Reading.{lengthOf}
 use borrow.Author.Needs.{needs}

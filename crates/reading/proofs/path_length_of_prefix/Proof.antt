@@ -1,6 +1,7 @@
 -- The test refuses, and the question is refused alike; or it passes, and the question is asked of the path in the buffer.
-use Rattle.reading.proofs.TestLaws.{one-passed, one-refused, readable}
-use Rattle.reading.proofs.QuestionLaws.{readable-prefix, prefix-length-asked, prefix-length-none}
+use Rattle.lent_path.proofs.TestLaws.{one-passed, one-refused, readable}
+use Rattle.lent_path.proofs.LentLaws.{readable-prefix}
+use Rattle.reading.proofs.QuestionLaws.{prefix-length-asked, prefix-length-none}
 use Rattle.reading.specs.Reading.{prefixLengthOf}
 use borrow.Author.Needs.{needs}
 use Rattle.reading.proofs.path_length_of_prefix.Statement.{statement}

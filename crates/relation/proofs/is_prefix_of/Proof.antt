@@ -1,6 +1,6 @@
 -- The test refuses, and the question is refused alike; or it passes, and the inner function answers for the two paths.
 use mathlib.Core.Path.{sym, _∙_, ap}
-use Rattle.reading.proofs.TestLaws.{two-passed, two-refused, two-asked, readable-two}
+use Rattle.lent_path.proofs.TestLaws.{two-passed, two-refused, two-asked, readable-two}
 use Rattle.willow.specs.Refusals.{value}
 use Rattle.relation.specs.Relation.{prefixTestOf}
 use borrow.Author.Needs.{needs}

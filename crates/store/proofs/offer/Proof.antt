@@ -9,7 +9,7 @@ use Rattle.willow.specs.Answers.{pathRefusal}
 use Rattle.willow.specs.Numbers.{Bytes}
 use Rattle.willow.specs.Store.{Offer}
 use Rattle.willow.proofs.NumberLaws.{bytes-by-index}
-use Rattle.reading.proofs.TestLaws.{one-passed}
+use Rattle.lent_path.proofs.TestLaws.{one-passed}
 use Rattle.store_form.specs.Stores.{sizesIn}
 use Rattle.store_form.specs.StoreTest.{isStore}
 use Rattle.store.specs.Calls.{offerOf}

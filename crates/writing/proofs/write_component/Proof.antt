@@ -1,9 +1,10 @@
 -- The test refuses, or there is no answer, and nothing is written; else the part is written to the front if it fits.
 use mathlib.Core.Path.{refl}
 use Rattle.reading.specs.Reading.{componentOf}
-use Rattle.reading.proofs.TestLaws.{one-passed, one-refused, readable}
+use Rattle.lent_path.proofs.TestLaws.{one-passed, one-refused, readable}
 use Rattle.willow.proofs.AnswerLaws.{written-as}
-use Rattle.reading.proofs.QuestionLaws.{component-there, component-asked, component-none}
+use Rattle.lent_path.proofs.LentLaws.{component-there}
+use Rattle.reading.proofs.QuestionLaws.{component-asked, component-none}
 use borrow.Author.Needs.{needs}
 use Rattle.writing.proofs.write_component.Statement.{statement}
 use Rattle.writing.proofs.write_component.Tie as tie

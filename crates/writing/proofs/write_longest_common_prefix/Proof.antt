@@ -1,10 +1,10 @@
 -- The test refuses, or there is no answer, and nothing is written; else the part is written to the front if it fits.
 use mathlib.Core.Path.{refl}
 use Rattle.writing.specs.Writing.{commonPrefixOf}
-use Rattle.reading.proofs.TestLaws.{two-passed, two-refused, readable-two}
+use Rattle.lent_path.proofs.TestLaws.{two-passed, two-refused, readable-two}
 use Rattle.writing.proofs.WritingLaws.{common-within, common-asked}
 use Rattle.willow.proofs.AnswerLaws.{made-as}
-use Rattle.reading.proofs.QuestionLaws.{readable-prefix}
+use Rattle.lent_path.proofs.LentLaws.{readable-prefix}
 use borrow.Author.Needs.{needs}
 use Rattle.writing.proofs.write_longest_common_prefix.Statement.{statement}
 use Rattle.writing.proofs.write_longest_common_prefix.Tie as tie

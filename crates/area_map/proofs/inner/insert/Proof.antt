@@ -5,7 +5,7 @@ use native.Mathlib.Omega.{arith}
 use denote.Ref.{now}
 use Rattle.willow.specs.Answers.{pathRefusal}
 use Rattle.willow.proofs.NumberLaws.{bytes-by-index}
-use Rattle.reading.proofs.TestLaws.{one-passed, readable}
+use Rattle.lent_path.proofs.TestLaws.{one-passed, readable}
 use Rattle.area_map.proofs.InsertLaws.{known, path-fits, path-refused, no-room, free, room, taken}
 use borrow.Author.Needs.{needs}
 use Rattle.area_map.proofs.inner.insert.Statement.{statement}

@@ -8,7 +8,7 @@ use Rattle.willow.specs.Answers.{pathIn}
 use Rattle.willow.specs.Numbers.{Bytes}
 use Rattle.willow.specs.Paths.{Path}
 use Rattle.willow.proofs.NumberLaws.{bytes-by-index}
-use Rattle.reading.proofs.TestLaws.{readable}
+use Rattle.lent_path.proofs.TestLaws.{readable}
 use Rattle.entry.specs.Heads.{entryAt}
 use Rattle.store.proofs.MeetingLaws.{known}
 use Rattle.store.proofs.TakingLaws.{path-fits, Numbers, numbersIn, totals, payloads-word, rows-readable, Filing, full, pruned-few, refused-so, outdated-so, repeat-so, filing, taken-so}

@@ -11,7 +11,7 @@ use Rattle.sheet.specs.Cells.{cellSizeOf, pathCell}
 use Rattle.sheet.specs.Rows.{rowsOf, Shape, withRows}
 use Rattle.store_form.specs.Stores.{storeShape}
 use Rattle.store_rows.specs.EntryRows.{sizesOf}
-use Rattle.store_filing.specs.Filing.{putAt}
+use Rattle.store_closing.specs.Filing.{putAt}
 use Rattle.store_filing.proofs.PuttingLaws.{lent-cell, row-lent}
 use Rattle.store_filing.proofs.inner.put_row.Statement.{statement}
 use Rattle.store_filing.proofs.inner.put_row.Tie as tie

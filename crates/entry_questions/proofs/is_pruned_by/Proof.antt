@@ -1,0 +1,41 @@
+-- The test refuses, and the question is refused alike; or it passes, and the inner function answers for the two entries, the
+-- second first.
+use mathlib.Core.Path.{_∙_, ap}
+use Rattle.lent_path.proofs.TestLaws.{two-passed, two-refused, two-asked, readable-two}
+use Rattle.willow.specs.Refusals.{value}
+use borrow.Author.Needs.{needs}
+use Rattle.entry_questions.proofs.is_pruned_by.Statement.{statement}
+use Rattle.entry_questions.proofs.is_pruned_by.Tie as tie
+
+test-two-requires : tie.Need-test-two-requires
+test-two-requires c κs = search needs
+
+enum-known-t : tie.Need-enum-known-t
+enum-known-t c = search needs
+
+enum-told : tie.Need-enum-told
+enum-told c = search needs
+
+prunes-requires : tie.Need-prunes-requires
+prunes-requires c κs = let r = readable-two _ _ _ _ _ (two-passed _ _ _ _ _ _ (c .before .before .test-two .ensures) (c .enum-told .given .1)) in (search r, search r)
+
+answer-requires : tie.Need-answer-requires
+answer-requires c κs = search needs
+
+returns : tie.Need-returns
+returns c = two-refused _ _ _ _ _ _ _ _ (c .before .before .before .test-two .ensures) (c .before .t .given .1)
+
+returns-2 : tie.Need-returns-2
+returns-2 c = c .answer .ensures ∙ ap value (c .before .prunes .ensures) ∙ two-asked _ _ _ _ _ _ (two-passed _ _ _ _ _ _ (c .before .before .before .before .test-two .ensures) (c .before .before .enum-told .given .1))
+
+pub is-pruned-by-spec : {M : Type 1} → statement M
+is-pruned-by-spec =
+    tie.close
+    (tie.spec
+    test-two-requires
+    enum-known-t
+    enum-told
+    prunes-requires
+    answer-requires
+    returns
+    returns-2)

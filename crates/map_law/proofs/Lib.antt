@@ -1,0 +1,5 @@
+pub mod FreshLaws
+pub mod ArgumentLaws
+pub mod TableLaws
+pub mod StepLaws
+pub mod TheoremProof

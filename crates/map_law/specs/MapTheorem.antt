@@ -1,0 +1,82 @@
+-- THE MAP'S THEOREM: what every list of insertions into a fresh map leaves, and what each of them is answered.
+use Prim.Native.Nat.{ℕ, _≤_, _<_}
+use mathlib.Core.Path.{_≡_}
+use mathlib.Core.Logic.{_⊎_, _↔_}
+use mathlib.Core.List.{List, [], _∷_, _++_}
+use mathlib.Core.Option.{some}
+use lib.ListN.{length, drop}
+use Rattle.willow.specs.declared.Limits.{Limits}
+use Rattle.willow.specs.declared.Refusal.the-variants.{BadKind, BadPath, NoRoom}
+use Rattle.willow.specs.Answers.{writtenBuffer}
+use Rattle.willow.specs.Limits.{Accepted, maxCapacity}
+use Rattle.willow.specs.Lists.{All}
+use Rattle.willow.specs.Numbers.{Bytes}
+use Rattle.willow.specs.Packed.{Lent}
+use Rattle.willow.specs.Paths.{Path}
+use Rattle.willow.specs.Refusals.{Outcome, refused, absent, value}
+use Rattle.sheet.specs.Rows.{sheetLength}
+use Rattle.area_kinds.specs.AreaKinds.{Parts, areaWith}
+use Rattle.map_form.specs.Maps.{MapSizes, mapShape, Rule, mapLayout}
+use Rattle.map_law.specs.Insertions.{freshMap, AreaArgument, Insertion, Passed, partsIn, insertAnswer, insertLeaves}
+
+-- Each call "gets it as the one before left it": the bytes after a list of insertions, and their answers.
+abbrev pub bytesAfter : List ℕ → List Insertion → List ℕ
+bytesAfter s [] = s
+bytesAfter s (x ∷ xs) = bytesAfter (insertLeaves s x) xs
+
+abbrev pub answersTo : List ℕ → List Insertion → List (Outcome ℕ)
+answersTo s [] = []
+answersTo s (x ∷ xs) = insertAnswer s x ∷ answersTo (insertLeaves s x) xs
+
+-- WHAT IS MEANT. The kinds of an area are 0 or 1, and it lends a path:
+abbrev pub GoodKinds : AreaArgument → Type 0
+GoodKinds x = ((x .kind ≡ 0) ⊎ (x .kind ≡ 1)) × ((x .endKind ≡ 0) ⊎ (x .endKind ≡ 1))
+
+abbrev pub LendsPath : MapSizes → AreaArgument → Type 0
+LendsPath z x = (p : Path) × Lent (z .limits) (x .buffer) (x .count) p
+
+-- .. and so the rule that an insertion passes.
+pub record Passes (z : MapSizes) (x : Insertion) (r : Rule) : Type 0 where
+  pub parts : Parts
+  pub stand : partsIn (x .area) ≡ some parts
+  pub path : Path
+  pub lent : Lent (z .limits) (x .area .buffer) (x .area .count) path
+  pub same-area : r .area ≡ areaWith parts path
+  pub same-value : r .value ≡ x .value
+
+-- THE TABLE, both ways, where these rules stand in the map: each answer exactly if its condition holds and that of no refusal
+-- tested before it does. 2 is not among them: the sheet is one.
+pub record Table (z : MapSizes) (rules : List Rule) (x : Insertion) (a : Outcome ℕ) : Type 0 where
+  pub bad-kind : (a ≡ refused BadKind) ↔ (GoodKinds (x .area) → ⊥)
+  pub bad-path : (a ≡ refused BadPath) ↔ (GoodKinds (x .area) × (LendsPath z (x .area) → ⊥))
+  pub no-room : (a ≡ refused NoRoom) ↔ (GoodKinds (x .area) × LendsPath z (x .area) × (length rules ≡ z .capacity))
+  pub taken : (a ≡ value (length rules)) ↔ (GoodKinds (x .area) × LendsPath z (x .area) × (length rules < z .capacity))
+
+-- The rules after an insertion that was answered so: a refused one changes nothing, another's rule stands behind the others.
+abbrev pub Grown : MapSizes → List Rule → Insertion → Outcome ℕ → List Rule → Type 0
+Grown z rules x (refused r) next = next ≡ rules
+Grown z rules x absent next = ⊥
+Grown z rules x (value k) next = (r : Rule) × Passes z x r × (next ≡ rules ++ (r ∷ []))
+
+-- A list of insertions with its answers leads from rules to rules, each answered by the table for the rules just before it.
+abbrev pub Leads : MapSizes → List Rule → List Insertion → List (Outcome ℕ) → List Rule → Type 0
+Leads z rules [] [] last = last ≡ rules
+Leads z rules [] (a ∷ as′) last = ⊥
+Leads z rules (x ∷ xs) [] last = ⊥
+Leads z rules (x ∷ xs) (a ∷ as′) last =
+    Table z rules x a × ((next : List Rule) × Grown z rules x a next × Leads z next xs as′ last)
+
+-- The rules of the insertions in the map, and the map's bytes in every place: the layout of those rules, and behind it what stood
+-- in the buffer.
+pub record MapAfter (z : MapSizes) (s : List ℕ) (out : List ℕ) (xs : List Insertion) : Type 0 where
+  pub rules : List Rule
+  pub leads : Leads z [] xs (answersTo s xs) rules
+  pub bytes : bytesAfter s xs ≡ mapLayout z rules ++ drop (sheetLength (mapShape z)) out
+  pub within : length rules ≤ z .capacity
+
+-- For all accepted sizes, every buffer that is long enough, and every list of insertions with any arguments, from exactly what
+-- making a fresh map leaves. The premises are met by limits of 0, a capacity of 0 and a buffer of 40 zeros.
+abbrev pub MapTheorem : Type 0
+MapTheorem = (L : Limits) (N : ℕ) (out : List ℕ) (xs : List Insertion) → Accepted L → N ≤ maxCapacity → Bytes out
+    → sheetLength (mapShape (record { limits = L; capacity = N })) ≤ length out → All Passed xs
+    → MapAfter (record { limits = L; capacity = N }) (writtenBuffer (freshMap L N) out) out xs
