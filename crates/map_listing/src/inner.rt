@@ -10,7 +10,7 @@ ghost use mathlib.Core.Bool.{true};
 ghost use mathlib.Core.Path.{_≡_};
 ghost use Prim.Native.Nat.{_*_, _<_, _≤_};
 ghost use lib.ListN.{length};
-ghost use Rattle.willow.specs.Answers.{countedOutcome, writtenBuffer, writtenLength};
+ghost use Rattle.willow.specs.Answers.{countedOutcome, writtenBuffer};
 ghost use Rattle.willow.specs.Numbers.{le};
 ghost use Rattle.willow.specs.Refusals.{value};
 ghost use Rattle.number.specs.Overwriting.{overwrite};
@@ -32,18 +32,6 @@ pub fn rule(sheet: &[u8], i: usize) -> RuleRead
         rules::rule_area(sheet, i, count),
         rules::rule_value(sheet, i),
     )
-}
-
-// Bytes written to the front of out, if they fit.
-pub fn write_part(part: &[u8], out: &mut [u8]) -> Counted
-    ensures { λ r. ⌜ countedOutcome r ≡ writtenLength (value (now (part .entry))) (now (out .entry)) ⌝ }
-    ensures { λ _. ⌜ now (out .exit) ≡ writtenBuffer (value (now (part .entry))) (now (out .entry)) ⌝ }
-{
-    if out.len() < part.len() {
-        return Counted::Refused(Refusal::OutTooSmall);
-    }
-    number::put(out, 0, part);
-    Counted::Count(part.len() as u64)
 }
 
 // Whether the area of rule i and another intersect.

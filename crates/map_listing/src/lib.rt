@@ -65,7 +65,7 @@ pub fn write_rule_path(sheet: &[u8], i: u64, out: &mut [u8]) -> Counted
 {
     if map_test::inner::is_map(sheet) {
         if i < number::read_u64(sheet, 32) {
-            return inner::write_part(map_rules::inner::rule_path(sheet, i as usize), out);
+            return written::write_part(map_rules::inner::rule_path(sheet, i as usize), out);
         }
         return Counted::Nothing;
     }

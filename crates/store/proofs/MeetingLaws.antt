@@ -1,5 +1,4 @@
--- What a store's numbers, rows and entries are to an offer: its rows may be read, and what a pass over them meets is what the table
--- asks of the state.
+-- What a store's numbers, rows and entries are to an offer: what a pass over its rows meets is what the table asks of the state.
 use Prim.Native.Nat.{ℕ, _+_, _-_, _≤_}
 use mathlib.Core.Path.{_≡_, refl, sym, _∙_, ap}
 use mathlib.Core.List.{List, [], _∷_, map}
@@ -25,8 +24,7 @@ use Rattle.store_form.specs.Stores.{Stands, ProperStore, sizesIn, countIn, held
 use Rattle.store_form.specs.StoreTest.{isStore}
 use Rattle.store_form.proofs.EntryRows.{named, named-rows}
 use Rattle.store_form.proofs.ReadingLaws.{store-reading, used-count}
-use Rattle.store_form.proofs.TestedLaws.{Tested, tested, is-store-passes}
-use Rattle.store_rows.specs.EntryRows.{RowsReadable}
+use Rattle.store_form.proofs.TestedLaws.{known}
 use Rattle.store_scan.specs.declared.Scan.{Scan}
 use Rattle.store_scan.specs.Scans.{nothingMet, metBy, met, scanned}
 use Rattle.store_scan.proofs.ScanLaws.{scan-theorem}
@@ -50,28 +48,15 @@ scanned-pruned e a [] = omega arith
 scanned-pruned e a (h ∷ hs) = let k = met-pruned e h a in let l = scanned-pruned e (met e a h) hs in omega arith
 
 module _ (s : List ℕ) (stored : isStore s ≡ true) where
-  pub known : Tested s (sizesIn s) (countIn s) (heldIn s) (letGoIn s)
-  known = tested s (sizesIn s) (countIn s) (heldIn s) (letGoIn s) .0 (sym (is-store-passes s) ∙ stored)
-
   pub payloads-word : payloads (map (entryIn 0) (usedRows s)) ≤ maxWord
-  payloads-word = let t = known .sizes .totals in let h = known .rows .entries .held-sum in omega arith
+  payloads-word = let t = known s stored .sizes .totals in let h = known s stored .rows .entries .held-sum in omega arith
 
   module _ (b : Bytes s) where
-    pub readable : RowsReadable (sizesIn s .limits) (sizesIn s .capacity) (countIn s) s
-    readable = record {
-      limits-accepted = known .sizes .limits-accepted;
-      capacity-accepted = known .sizes .capacity-accepted;
-      bytes = b;
-      room = known .room;
-      count = known .sizes .count;
-      cells = known .rows .cells-fit;
-    }
-
     pub proper : ProperStore (sizesIn s) (stateIn s)
     proper = store-reading .read s b stored .proper
 
     pub entries-count : length (stateIn s .entries) ≡ countIn s
-    entries-count = used-count s b known
+    entries-count = used-count s b (known s stored)
 
     -- THE PASS of an offer, over the rows.
     module _ (head : Head) (p : Path) (a : Scan) (scan : a ≡ scanned (entryAt 0 head p) nothingMet (map (entryIn 0) (usedRows s))) where

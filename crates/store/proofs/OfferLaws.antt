@@ -22,10 +22,10 @@ use Rattle.willow.proofs.LimitLaws.{limit-laws}
 use Rattle.store_form.specs.Stores.{sizesIn, stateIn}
 use Rattle.store_form.specs.StoreTest.{isStore}
 use Rattle.store_form.proofs.EntryRows.{named}
+use Rattle.store_form.proofs.TestedLaws.{known}
 use Rattle.store_law.specs.Offers.{answerIn, leavesIn}
 use Rattle.store_law.proofs.Demand3BytesLaws.{refused-unchanged}
 use Rattle.store.specs.Taking.{entryAnswer, entryLeaves}
-use Rattle.store.proofs.MeetingLaws.{known}
 
 module _ (s : List ℕ) (o : Offer) where
   -- WHAT IS ANSWERED AND LEFT. Where it is a refusal, nothing is written.

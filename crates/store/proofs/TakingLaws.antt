@@ -33,7 +33,9 @@ use Rattle.sheet.proofs.LayoutLaws.{filled, length-used, filled-used}
 use Rattle.store_form.specs.Stores.{storeShape, storeLayout, entryHead, entryRow, sizesIn, countIn, heldIn, letGoIn, entryIn, usedRows, stateIn}
 use Rattle.store_form.specs.StoreTest.{isStore}
 use Rattle.store_form.proofs.ReadingLaws.{used-passed}
+use Rattle.store_form.proofs.TestedLaws.{known}
 use Rattle.store_rows.specs.EntryRows.{sizesOf, RowsReadable}
+use Rattle.store_rows.proofs.RowEntryLaws.{store-readable}
 use Rattle.store_scan.specs.declared.Scan.{Scan}
 use Rattle.store_scan.specs.Scans.{nothingMet, scanned}
 use Rattle.store_filing.specs.Filing.{staysBy, putAt}
@@ -71,13 +73,13 @@ numbersIn s = record { limits = sizesIn s .limits; capacity = sizesIn s .capacit
 
 module _ (s : List ℕ) (stored : isStore s ≡ true) (x : Numbers) (same : x ≡ numbersIn s) where
   pub totals : x .held + x .letGo ≤ maxWord
-  totals = rw same (meeting.known s stored .sizes .totals)
+  totals = rw same (known s stored .sizes .totals)
 
   pub payloads-word : payloads (map (entryIn 0) (take (x .count) (rowsOf (storeShape (sizesOf (x .limits) (x .capacity))) s))) ≤ maxWord
   payloads-word = rw same (meeting.payloads-word s stored)
 
   pub rows-readable : Bytes s → RowsReadable (x .limits) (x .capacity) (x .count) s
-  rows-readable b = rw same (meeting.readable s stored b)
+  rows-readable b = rw same (store-readable s stored b)
 
 -- What is known of an offer that is filed: a row is free, its place is among the rows that are left, and the new numbers do not wrap.
 pub record Filing (x : Numbers) (a : Scan) (o : Entry) (s : List ℕ) : Type 0 where
@@ -99,7 +101,7 @@ module _ (s : List ℕ) (b : Bytes s) (stored : isStore s ≡ true) (head : Head
 
   left-rows : rowsLeft (sizesIn s .limits) (sizesIn s .capacity) (countIn s) (entryAt 0 head p) s ≡ map row left
   unfolding stateIn
-  left-rows = rows-stay (sizesIn s .limits) e (usedRows s) (used-passed s b (meeting.known s stored))
+  left-rows = rows-stay (sizesIn s .limits) e (usedRows s) (used-passed s b (known s stored))
 
   left-count : length (rowsLeft (sizesIn s .limits) (sizesIn s .capacity) (countIn s) (entryAt 0 head p) s) ≡ length left
   left-count = ap length left-rows ∙ length-map left row
@@ -115,7 +117,7 @@ module _ (s : List ℕ) (b : Bytes s) (stored : isStore s ≡ true) (head : Head
       let z : Shape = storeShape (sizesIn s) in
       let o : Entry = entryAt 0 head p in
       let kept : List Row = rowsLeft (sizesIn s .limits) (sizesIn s .capacity) (countIn s) o s in
-      let q = meeting.known s stored in
+      let q = known s stored in
       let l = left-count in
       let all = sym (filled-used z s (q .room) (countIn s) (q .sizes .count) (q .rows .heads-zero) (q .rows .cells-zero)) in
       let used = length-used z s (q .room) (countIn s) (q .sizes .count) (q .rows .heads-zero) (q .rows .cells-zero) in
@@ -189,7 +191,7 @@ module _ (s : List ℕ) (b : Bytes s) (stored : isStore s ≡ true) (head : Head
           few : length left < sizesIn s .capacity
           few =
               let l = left-is in
-              let c = meeting.known s stored .sizes .count in
+              let c = known s stored .sizes .count in
               let other : countIn s - a .pruned ≡ sizesIn s .capacity → ⊥ = eqb-false (countIn s - a .pruned) (sizesIn s .capacity) (rw same at (means .2)) in
               omega arith
 
@@ -202,7 +204,7 @@ module _ (s : List ℕ) (b : Bytes s) (stored : isStore s ≡ true) (head : Head
               let k = left-count in
               let f = few in
               let w = place-within in
-              let c = meeting.known s stored .sizes .capacity-accepted in
+              let c = known s stored .sizes .capacity-accepted in
               rw same
               (record {
                 free = omega arith;

@@ -30,7 +30,7 @@ use Rattle.store_form.specs.Stores.{storeNumbers, storeHeadSize, storeSh
 use Rattle.store_form.specs.StoreTest.{isStore, storeRefusal, StoreReading}
 use Rattle.store_form.proofs.ApartLaws.{apart-theorem}
 use Rattle.store_form.proofs.EntryRows.{row-cell-fits, rows-fit, entries-back, Passed, entry-valid, rows-back, named-rows, named-payloads, named-ascends, named-clear}
-use Rattle.store_form.proofs.TestedLaws.{EntriesTested, Tested, passes, tested, is-store-passes}
+use Rattle.store_form.proofs.TestedLaws.{EntriesTested, Tested, passes, tested, is-store-passes, known}
 
 -- THE TEST OF ENTRIES says the same in every namespace.
 pub tested-in : (m n held : ℕ) (rs : List Row) → EntriesTested held (map (entryIn m) rs) → EntriesTested held (map (entryIn n) rs)
@@ -224,7 +224,7 @@ module _ (s : List ℕ) (b : Bytes s) (q : Tested s (sizesIn s) (countIn s) (hel
 -- THE THEOREM.
 stored : (s : List ℕ) → Bytes s → isStore s ≡ true → IsStore s (sizesIn s) (stateIn s)
 stored s b h =
-    let q = tested s (sizesIn s) (countIn s) (heldIn s) (letGoIn s) .0 (sym (is-store-passes s) ∙ h) in
+    let q = known s h in
     record { proper = read-proper s b q; rest = drop (sheetLength (storeShape (sizesIn s))) s; laid-out = read-laid-out s b q }
 
 passed : (s : List ℕ) (z : Sizes) (t : State) → IsStore s z t → isStore s ≡ true

@@ -1,6 +1,6 @@
 -- The test of a store, taken apart into what it says of the bytes, for sizes and totals that stand beside it.
 use Prim.Native.Nat.{ℕ, _+_, _*_, _-_, _≤_}
-use mathlib.Core.Path.{_≡_, refl}
+use mathlib.Core.Path.{_≡_, refl, sym, _∙_}
 use mathlib.Core.Logic.{_↔_}
 use mathlib.Core.List.{List, [], _∷_, map}
 use mathlib.Core.Bool.{Bool, true, _&&_}
@@ -137,3 +137,7 @@ tested s z n held letGo = (
 pub is-store-passes : (s : List ℕ) → isStore s ≡ passes s (sizesIn s) (countIn s) (heldIn s) (letGoIn s)
 unfolding isStore
 is-store-passes s = refl
+
+-- A STORE THAT PASSED, by the sizes and totals that stand in it.
+pub known : (s : List ℕ) → isStore s ≡ true → Tested s (sizesIn s) (countIn s) (heldIn s) (letGoIn s)
+known s h = tested s (sizesIn s) (countIn s) (heldIn s) (letGoIn s) .0 (sym (is-store-passes s) ∙ h)

@@ -11,7 +11,7 @@ use borrow.Author.Tests.{eq-eqb, ne-eqb}
 use Rattle.willow.specs.declared.Limits.{Limits}
 use Rattle.willow.specs.Answers.{pathIn}
 use Rattle.willow.specs.Entries.{Entry}
-use Rattle.willow.specs.Numbers.{numberAt}
+use Rattle.willow.specs.Numbers.{Bytes, numberAt}
 use Rattle.willow.specs.Packed.{unpack, packedCount, Packed}
 use Rattle.willow.specs.Paths.{Path, isPrefixOf}
 use Rattle.willow.proofs.AnswerLaws.{accepted-words}
@@ -26,8 +26,23 @@ use Rattle.sheet.specs.Rows.{Row, head, cell, zeroRow, cellsFrom, Room, rowsOf,
 use Rattle.sheet.proofs.CellProofs.{CellTested, cell-tested, cell-packed}
 use Rattle.sheet.proofs.RowLaws.{fitting-rows, head-at, cell-at}
 use Rattle.store_form.specs.Apart.{covers}
-use Rattle.store_form.specs.Stores.{storeHeadSize, storeShape, entryIn}
+use Rattle.store_form.specs.Stores.{storeHeadSize, storeShape, sizesIn, countIn, entryIn}
+use Rattle.store_form.specs.StoreTest.{isStore}
+use Rattle.store_form.proofs.TestedLaws.{known}
 use Rattle.store_rows.specs.EntryRows.{sizesOf, RowsReadable, rowEntry}
+
+-- THE ROWS OF A STORE that passed may be read.
+pub store-readable : (s : List ℕ) → isStore s ≡ true → Bytes s → RowsReadable (sizesIn s .limits) (sizesIn s .capacity) (countIn s) s
+store-readable s stored b =
+    let k = known s stored in
+    record {
+      limits-accepted = k .sizes .limits-accepted;
+      capacity-accepted = k .sizes .capacity-accepted;
+      bytes = b;
+      room = k .room;
+      count = k .sizes .count;
+      cells = k .rows .cells-fit;
+    }
 
 -- COVERING by two subspaces and two paths that were read.
 module _ (o e : Entry) (a b : ℕ) (ea : a ≡ o .subspace) (eb : b ≡ e .subspace) where

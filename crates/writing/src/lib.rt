@@ -6,6 +6,7 @@ use willow::Counted;
 use willow::Limits;
 use willow::Refusal;
 use willow::Tested;
+use written::write_part;
 ghost use mathlib.Core.Path.{_≡_};
 ghost use Rattle.packed.specs.Readable.{Readable};
 ghost use Rattle.reading.specs.Reading.{componentOf};
@@ -13,18 +14,6 @@ ghost use Rattle.willow.specs.Answers.{countedOutcome, onPath, onPaths, packedO
 ghost use Rattle.willow.specs.Packed.{pack};
 ghost use Rattle.willow.specs.Refusals.{value};
 ghost use Rattle.writing.specs.Writing.{commonPrefixOf, prefixOf};
-
-// Bytes written to the front of out, if they fit.
-fn write_part(part: &[u8], out: &mut [u8]) -> Counted
-    ensures { λ r. ⌜ countedOutcome r ≡ writtenLength (value (now (part .entry))) (now (out .entry)) ⌝ }
-    ensures { λ _. ⌜ now (out .exit) ≡ writtenBuffer (value (now (part .entry))) (now (out .entry)) ⌝ }
-{
-    if out.len() < part.len() {
-        return Counted::Refused(Refusal::OutTooSmall);
-    }
-    number::put(out, 0, part);
-    Counted::Count(part.len() as u64)
-}
 
 // The packed form of the first n components of a tested path written to the front of out, if it fits.
 fn write_first(b: &[u8], n: usize, out: &mut [u8]) -> Counted

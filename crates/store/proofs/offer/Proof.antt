@@ -12,8 +12,8 @@ use Rattle.willow.proofs.NumberLaws.{bytes-by-index}
 use Rattle.reading.proofs.TestLaws.{one-passed}
 use Rattle.store_form.specs.Stores.{sizesIn}
 use Rattle.store_form.specs.StoreTest.{isStore}
+use Rattle.store_form.proofs.TestedLaws.{known}
 use Rattle.store.specs.Calls.{offerOf}
-use Rattle.store.proofs.MeetingLaws.{known}
 use Rattle.store.proofs.OfferLaws.{not-a-store, wrong-namespace, path-refused, as-entry}
 use borrow.Author.Needs.{needs}
 use Rattle.store.proofs.offer.Statement.{statement}

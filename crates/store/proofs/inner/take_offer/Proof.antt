@@ -10,7 +10,7 @@ use Rattle.willow.specs.Paths.{Path}
 use Rattle.willow.proofs.NumberLaws.{bytes-by-index}
 use Rattle.reading.proofs.TestLaws.{readable}
 use Rattle.entry.specs.Heads.{entryAt}
-use Rattle.store.proofs.MeetingLaws.{known}
+use Rattle.store_form.proofs.TestedLaws.{known}
 use Rattle.store.proofs.TakingLaws.{path-fits, Numbers, numbersIn, totals, payloads-word, rows-readable, Filing, full, pruned-few, refused-so, outdated-so, repeat-so, filing, taken-so}
 use borrow.Author.Needs.{needs}
 use Rattle.store.proofs.inner.take_offer.Statement.{statement}

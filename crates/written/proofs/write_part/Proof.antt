@@ -1,10 +1,10 @@
--- Too short a buffer is refused; else the write to the front is the answer and what stood behind.
+-- Too short a buffer is refused; else the write to the front is the answer, and what stood behind it stays.
 use mathlib.Core.Path.{refl, _∙_}
 use borrow.Author.Tests.{le-leb, lt-leb}
 use Rattle.number.proofs.OverwritingLaws.{overwrite-at-front}
 use borrow.Author.Needs.{needs}
-use Rattle.map_listing.proofs.inner.write_part.Statement.{statement}
-use Rattle.map_listing.proofs.inner.write_part.Tie as tie
+use Rattle.written.proofs.write_part.Statement.{statement}
+use Rattle.written.proofs.write_part.Tie as tie
 
 returns : tie.Need-returns
 returns c = rw (lt-leb _ _ (c .if1 .taken)) (refl, refl)

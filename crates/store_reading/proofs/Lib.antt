@@ -1,0 +1,2 @@
+pub mod EntryAtLaws
+pub mod ReadCallLaws

@@ -1,0 +1,78 @@
+// A store that was tested, read: its numbers, and entry i. They are not open to a caller.
+
+use crate::EntryRead;
+use crate::StoreNumbers;
+use entry::Head;
+use store_rows::inner as rows;
+use willow::Counted;
+use willow::Limits;
+ghost use mathlib.Core.Bool.{true};
+ghost use mathlib.Core.Path.{_≡_};
+ghost use Prim.Native.Nat.{_<_};
+ghost use lib.ListN.{getD, length};
+ghost use Rattle.willow.specs.Answers.{countedOutcome};
+ghost use Rattle.willow.specs.Packed.{pack};
+ghost use Rattle.willow.specs.Refusals.{value};
+ghost use Rattle.store_form.specs.Stores.{countIn, sizesIn, stateIn};
+ghost use Rattle.store_form.specs.StoreTest.{isStore};
+ghost use Rattle.store_reading.specs.Held.{headOf, noEntry, numbersOf};
+
+// The limits of a store.
+fn limits(sheet: &[u8]) -> Limits
+    requires { ⌜ isStore (now sheet) ≡ true ⌝ }
+    ensures { λ r. ⌜ r ≡ sizesIn (now (sheet .entry)) .limits ⌝ }
+{
+    Limits {
+        mcl: number::read_u64(sheet, 0),
+        mcc: number::read_u64(sheet, 8),
+        mpl: number::read_u64(sheet, 16),
+    }
+}
+
+// The numbers of a store.
+pub fn numbers(sheet: &[u8]) -> StoreNumbers
+    requires { ⌜ isStore (now sheet) ≡ true ⌝ }
+    ensures { λ r. ⌜ r ≡ numbersOf (sizesIn (now (sheet .entry))) (stateIn (now (sheet .entry))) ⌝ }
+{
+    StoreNumbers {
+        limits: limits(sheet),
+        capacity: number::read_u64(sheet, 24),
+        count: number::read_u64(sheet, 32),
+        namespace: number::read_u64(sheet, 40),
+        held: number::read_u64(sheet, 48),
+        let_go: number::read_u64(sheet, 56),
+    }
+}
+
+// The packed path of entry i.
+pub fn path(sheet: &[u8], i: usize) -> &[u8]
+    requires { ⌜ (isStore (now sheet) ≡ true) × (i < countIn (now sheet)) ⌝ }
+    ensures { λ r. ⌜ now r ≡ pack (getD (stateIn (now (sheet .entry)) .entries) i noEntry .path) ⌝ }
+{
+    let capacity = number::read_u64(sheet, 24) as usize;
+    let n = number::read_u64(sheet, 32) as usize;
+    rows::path_at(sheet, limits(sheet), capacity, n, i)
+}
+
+// The head of entry i.
+fn head(sheet: &[u8], i: usize) -> Head
+    requires { ⌜ (isStore (now sheet) ≡ true) × (i < countIn (now sheet)) ⌝ }
+    ensures { λ r. ⌜ r ≡ headOf (getD (stateIn (now (sheet .entry)) .entries) i noEntry) ⌝ }
+{
+    let capacity = number::read_u64(sheet, 24) as usize;
+    let n = number::read_u64(sheet, 32) as usize;
+    rows::head_at(sheet, limits(sheet), capacity, n, i)
+}
+
+// Entry i but for its path.
+pub fn entry(sheet: &[u8], i: usize) -> EntryRead
+    requires { ⌜ (isStore (now sheet) ≡ true) × (i < countIn (now sheet)) ⌝ }
+    ensures { λ r. ⌜ countedOutcome (r .count) ≡ value (length (getD (stateIn (now (sheet .entry)) .entries) i noEntry .path)) ⌝ }
+    ensures { λ r. ⌜ r .head ≡ headOf (getD (stateIn (now (sheet .entry)) .entries) i noEntry) ⌝ }
+{
+    let count = number::read_u64(path(sheet, i), 0);
+    EntryRead {
+        count: Counted::Count(count),
+        head: head(sheet, i),
+    }
+}
