@@ -1,14 +1,16 @@
-"""Cases for the exported calls on area maps, and the answers that they must get.
+"""Cases for the exported calls on area maps and on stores, and the answers that they must get.
 
     python3 tools/vectors_sheets.py
 
-writes stdin and stdout of crates/vectors_map, and
+writes stdin and stdout of crates/vectors_map and of crates/vectors_store, and
 
     python3 tools/vectors_sheets.py map 100000 7 FOLDER
+    python3 tools/vectors_sheets.py store 100000 7 FOLDER
 
-at least 100,000 random lines for the program, with seed 7, and their answers to FOLDER/stdin and FOLDER/stdout. The answers
+at least 100,000 random lines for one of the programs, with seed 7, and their answers to FOLDER/stdin and FOLDER/stdout. The answers
 are computed here, from document 01; nothing of the core is read or run. A sheet is laid out by putting its parts one behind the
-other, and tested by reading it and laying out again what was read. Packed paths, the buffers of a line and the intersection of areas are those of
+other, and tested by reading it and laying out again what was read. What a store holds and has let go is computed from its whole
+history each time, in the words of document 01. Packed paths, the buffers of a line and the intersection of areas are those of
 tools/vectors.py and tools/vectors_grouping.py. The random cases have a fixed seed.
 """
 import random
@@ -17,7 +19,7 @@ from collections import namedtuple
 
 from vectors import NONE, TOP, Refused, Unreadable, accept, lent, numbers, packed, random_buffer, raw, shown, smallest
 from vectors import near as near_path, random_path, store as store_cases
-from vectors_grouping import Area, Range, area_intersection, end_shown, read_argument, words
+from vectors_grouping import Area, Entry, Range, area_intersection, digest, end_shown, place, prunes, read_argument, words
 
 MOST_N, KEPT_BYTES = 4096, 4096
 
@@ -106,6 +108,57 @@ def map_in(buffer):
     if not buffer.startswith(lay_map(found)):
         raise Refused(2)
     return found
+
+
+# THE STORE. A history: the unrefused offers in their order, and the bytes that were let go before it begins, which are 0 from a
+# fresh store.
+Told = namedtuple("Told", "limits capacity namespace before offers")
+
+
+def held_entries(offers):
+    """The entries that no other one prunes, each one time, by subspace and then path."""
+    return sorted({e for e in offers if not any(prunes(other, e) for other in offers)}, key=place)
+
+
+def bytes_of(offers):
+    return sum(offer.payload_length for offer in offers)
+
+
+def let_go_bytes(offers):
+    """Of every offer that repeats an earlier one or is pruned by another, earlier or later, each counted once."""
+    return bytes_of(o for i, o in enumerate(offers) if o in offers[:i] or any(prunes(other, o) for other in offers))
+
+
+def store_size(limits, capacity):
+    return 64 + capacity * (56 + cell_size(limits))
+
+
+def lay_entries(limits, capacity, namespace, entries, held, let_go):
+    heads = [laid(e.subspace, e.timestamp, e.payload_length) + e.digest for e in entries]
+    front = laid(*limits, capacity, len(entries), namespace, held, let_go)
+    return front + arrays(limits, capacity, heads, 56, [e.path for e in entries])
+
+
+def lay_store(told):
+    entries = held_entries(told.offers)
+    let_go = told.before + let_go_bytes(told.offers)
+    assert bytes_of(entries) + let_go == told.before + bytes_of(told.offers)
+    return lay_entries(told.limits, told.capacity, told.namespace, entries, bytes_of(entries), let_go)
+
+
+def store_in(buffer):
+    """The store that a buffer begins with, as a history of the entries that it holds."""
+    limits, capacity, rest, heads, paths = parts_of(buffer, 64, 56)
+    namespace, held, let_go = rest
+    entries = [Entry(namespace, numbers(head[:8])[0], path, *numbers(head[8:24]), head[24:]) for head, path in zip(heads, paths)]
+    if not buffer.startswith(lay_entries(limits, capacity, namespace, entries, held, let_go)):
+        raise Refused(2)
+    ascending = all(place(a) < place(b) for a, b in zip(entries, entries[1:]))
+    if not ascending or any(prunes(a, b) for a in entries for b in entries):
+        raise Refused(2)
+    if held != bytes_of(entries) or held + let_go > TOP:
+        raise Refused(2)
+    return Told(limits, capacity, namespace, let_go, tuple(entries))
 
 
 # THE PROGRAMS: lines with a buffer that is kept.
@@ -245,6 +298,76 @@ class MapHost(Host):
         if found is None:
             return 2, 0, b"\xee" * room
         return self.written(packed(found.rules[i].area.path) if i < len(found.rules) else None, room)
+
+
+class StoreHost(Host):
+    calls = {"store_fresh": "nnnnn", "store_test": "", "store_test_each": "n", "store_offer": "nnbnnnd"}
+    calls.update({"store_numbers": "", "store_entry": "n", "store_entry_path": "no"})
+    sheet_in = staticmethod(store_in)
+
+    def __init__(self):
+        super().__init__()
+        self.told = None
+
+    def fresh(self, mcl, mcc, mpl, capacity, namespace):
+        if over_bounds((mcl, mcc, mpl), capacity):
+            return 1, 0, self.buffer
+        told = Told((mcl, mcc, mpl), capacity, namespace, 0, ())
+        status, *rest = super().fresh(0, lay_store(told))
+        self.told = self.told if status else told
+        return status, *rest
+
+    def history(self):
+        """The history that led to the sheet; if something else wrote it, one that begins with what it holds; None if it is none."""
+        found = self.read()
+        if found is None or (self.told and self.buffer.startswith(lay_store(self.told))):
+            return found and self.told
+        return found
+
+    def offer(self, namespace, subspace, buffer, count, timestamp, payload_length, digest):
+        told = self.history()
+        if told is None:
+            return 2, 0, 0, self.buffer
+        path = given_path(told.limits, buffer, count)
+        refusal = smallest((4, namespace != told.namespace), (5, path is None))
+        if refusal:
+            return refusal, 0, 0, self.buffer
+        entry = Entry(namespace, subspace, path, timestamp, payload_length, digest)
+        refusal, answer, pruned = self.answer_to(told, entry)
+        if not refusal:
+            self.told = told._replace(offers=told.offers + (entry,))
+            self.write(lay_store(self.told))
+        return refusal, answer, pruned, self.buffer
+
+    def answer_to(self, told, entry):
+        """What an offer of the store's namespace is answered: taken 0, outdated 1, repeat 2."""
+        held = held_entries(told.offers)
+        outdated, repeat = any(prunes(other, entry) for other in held), entry in held
+        pruned = sum(prunes(entry, other) for other in held)
+        assert outdated == any(prunes(other, entry) for other in told.offers) and (repeat or outdated or entry not in told.offers)
+        full = told.before + bytes_of(told.offers) + entry.payload_length > TOP
+        no_room = len(held) - pruned == told.capacity and not outdated and not repeat
+        refusal = smallest((13, full), (14, no_room))
+        return (refusal, 0, 0) if refusal else (0, 1, 0) if outdated else (0, 2, 0) if repeat else (0, 0, pruned)
+
+    def numbers(self):
+        found = self.read()
+        if found is None:
+            return 2, *[0] * 8
+        return 0, *found.limits, found.capacity, len(found.offers), found.namespace, bytes_of(found.offers), found.before
+
+    def entry(self, i):
+        found = self.read()
+        if found is None or i >= len(found.offers):
+            return 2 if found is None else NONE, 0, 0, 0, 0, bytes(32)
+        e = found.offers[i]
+        return 0, e.subspace, e.timestamp, e.payload_length, len(e.path), e.digest
+
+    def entry_path(self, i, room):
+        found = self.read()
+        if found is None:
+            return 2, 0, b"\xee" * room
+        return self.written(packed(found.offers[i].path) if i < len(found.offers) else None, room)
 
 
 # THE CASES.
@@ -449,9 +572,9 @@ def damaged(name, play, sheets, lay, header):
             yield play(line)
             yield play(f"{name}_test")
     yield f"# each number before the heads changed"
-    for sheet in sheets[:3] + sheets[4:6]:
+    for sheet in sheets[1:3] + sheets[4:6]:
         for at in range(0, header, 8):
-            for value in (0, 1, 2, 3, 4, 9, 1024, 1025, 4096, 4097, 2**32, TOP):
+            for value in (0, 1, 2, 3, 4, 1024, 1025, 4096, 4097, TOP):
                 yield from play.sheet(number_changed(lay(sheet), at, value))
                 yield play(f"{name}_test")
 
@@ -579,13 +702,308 @@ def randoms(host, one, lines, seed):
             yield line
 
 
+# CASES OF STORES. An entry is of namespace 7.
+LOW, HIGH = digest(0x7F), digest(0x80)
+
+
+def entry(path="()", time=5, length=1, d=digest(), subspace=0):
+    components = () if path == "()" else tuple(b"" if c == "-" else bytes.fromhex(c) for c in path.split("/"))
+    return Entry(7, subspace, components, time, length, bytes.fromhex(d[1:]))
+
+
+def offer(e, namespace=7):
+    return words("store_offer", namespace, e.subspace, shown(e.path), len(e.path), e.timestamp, e.payload_length, "x" + e.digest.hex())
+
+
+def laid_store(entries, capacity, limits=(2, 2, 3), let_go=0, held=None):
+    """Laid out in the order given, whatever the entries are; the sum of their bytes as 8 bytes hold it, unless another is given."""
+    return lay_entries(limits, capacity, 7, entries, bytes_of(entries) % 2**64 if held is None else held, let_go)
+
+
+def read_back(play, entries):
+    yield play("store_test")
+    yield play("store_numbers")
+    for i in range(entries):
+        yield play("store_entry", i)
+        yield play("store_entry_path", i, 40)
+
+
+def stated_stores():
+    yield "# the case of document 01: one subspace, N = 1; with repeats in between; with offers of another namespace, of a bad path, too large or with no room"
+    play = Played(StoreHost())
+    offers = [entry("01", 5, 10), entry("01/02", 4, 7), entry("()", 6, 1)]
+    others = [offer(offers[0], 8), offer(entry("02", 5, 10)), offer(entry("010203", 5, 10)), offer(entry("()", 9, TOP))]
+    # Behind the last of the three, 10 bytes at path 02 are no longer refused: they are outdated.
+    for between, let_go in ((0, 17), (1, 17 + 18), (2, 17 + 18 + 10)):
+        yield play("room", store_size((2, 2, 3), 1) + 2)
+        yield play("store_fresh 2 2 3 1 7")
+        for e in offers:
+            for line in [offer(e)] + [offer(e)] * (between > 0) + others * (between > 1):
+                yield play(line)
+                yield play("store_numbers")
+        assert play.last == f"0 2 2 3 1 1 7 1 {let_go}"
+        yield from read_back(play, 2)
+
+
+def two_offers():
+    yield "# one entry held, another offered: at an equal path, above, below, beside; each age above, equal and below by time, digest, length"
+    play, held = Played(StoreHost()), entry("01", 5, 4, LOW)
+    for path in ("01", "()", "01/02", "0100", "00"):
+        for time in (4, 5, 6):
+            for d in (digest(0x7E), LOW, HIGH):
+                for length in (3, 4, 5):
+                    yield from play.sheet(laid_store([held], 2))
+                    yield play(offer(entry(path, time, length, d)))
+    yield "# digests that differ in the first byte, in the last, in both; as signed bytes they would be the other way round"
+    digests = [digest(0, 0), digest(0x7F, 0), digest(0x80, 0), digest(0xFF, 0), digest(0x7F, 0xFF), digest(0x80, 0x7F), digest(0, 0x80), digest(0, 0x7F)]
+    for a in digests:
+        for b in digests:
+            yield from play.sheet(laid_store([entry("01", 5, 4, a)], 1, (1, 1, 1)))
+            yield play(offer(entry("01", 5, 4, b)))
+    yield "# another subspace is not looked at, whatever the age; numbers that differ in a high byte alone"
+    for number in (0, 1, 255, 256, 2**63, TOP):
+        yield from play.sheet(laid_store([entry("01", 256, 256, LOW, 256)], 2, (1, 1, 1)))
+        yield play(offer(entry("()", 300, 1, HIGH, number)))
+        yield play(offer(entry("01", number, 256, LOW, 256)))
+        yield play(offer(entry("01", 256, number, LOW, 256)))
+
+
+def prunings():
+    yield "# offers that prune none, some and all, with a free place and with none: room made by pruning is used, else 14"
+    play = Played(StoreHost())
+    held = [entry("01", 5, 10, subspace=1), entry("01/02", 6, 20, subspace=1), entry("0100", 1, 40, subspace=1), entry("02", 3, 80, subspace=1), entry("01", 1, 160, subspace=2)]
+    offers = [(path, time, subspace) for subspace in (1, 2) for path in ("()", "01", "01/02", "01/03", "02", "02/-", "03") for time in (0, 1, 2, 5, 6, 7)]
+    for entries, capacity in ((held[:4], 4), (held, 5)):
+        for path, time, subspace in offers:
+            if subspace == 1 or path in ("()", "01") and capacity == 5:
+                yield from play.sheet(laid_store(entries, capacity, let_go=3) + b"\xab")
+                yield play(offer(entry(path, time, 5, HIGH, subspace)))
+    yield "# a free place: filed first, between, last, by subspace and then path"
+    for subspace, path in ((0, "ff"), (1, "()"), (1, "-"), (1, "00"), (1, "01"), (1, "01/-"), (1, "01/0201"), (1, "0100"), (1, "0101"), (1, "02"), (1, "ff"), (2, "()"), (2, "02"), (3, "()"), (TOP, "()")):
+        yield from play.sheet(laid_store(held[:2] + held[3:], 5))
+        yield play(offer(entry(path, 1, 5, LOW, subspace)))
+    yield from read_back(play, 6)
+    yield "# 14 is not for an outdated offer, nor for a repeat"
+    for e in (held[0], held[1], entry("01", 4, 10, subspace=1), entry("01/ff", 4, 10, subspace=1), entry("01", 5, 9, subspace=1), entry("01", 5, 11, subspace=1), entry("03", 5, 1, subspace=1)):
+        yield from play.sheet(laid_store(held[:2], 2))
+        yield play(offer(e))
+        yield play("store_numbers")
+
+
+def full_totals():
+    yield "# totals at 2^64 - 1 exactly and one past it, for offers that are taken, pruning, outdated, a repeat, or find no room: 13 before 14"
+    play, held = Played(StoreHost()), entry("01", 5, 10)
+    cases = [("02", 5), ("()", 6), ("01", 6), ("01", 4), ("01/02", 5), ("01/02", 4), ("01", 5)]
+    for capacity in (2, 1):
+        for path, time in cases:
+            for length, past in ((10, 0), (10, 1), (0, 0), (1, 1)):
+                yield from play.sheet(laid_store([held], capacity, let_go=TOP - 10 - length + past))
+                yield play(offer(entry(path, time, length)))
+    for length in (0, 1, TOP):
+        for let_go in (0, TOP - 1, TOP):
+            yield from play.sheet(laid_store([], 0, (0, 0, 0), let_go=let_go))
+            yield play(offer(entry("()", 1, length)))
+    yield "# from a fresh store up to the last byte"
+    for lengths in ((TOP, 0, 1, TOP, 0), (2**63 - 1, 2**63 - 1, 1, 1, 0), (2**63, 2**63, 2**63 - 1, 1, 0), (1, TOP, TOP - 1, 1, 0)):
+        for paths in (("()",) * 5, ("-", "00", "()", "00", "()"), ("()", "-", "00", "01", "02")):
+            yield play("room", store_size((1, 1, 1), 3))
+            yield play("store_fresh 1 1 1 3 7")
+            for length, path in zip(lengths, paths):
+                yield play(offer(entry(path, 3, length)))
+            yield play("store_numbers")
+            yield play("store_test")
+
+
+def refused_offers():
+    yield "# 2 before 4, 4 before 5, 5 before 13 and 14: with room, full, with full totals, damaged"
+    play, held = Played(StoreHost()), entry("01", 5, 10)
+    full = laid_store([held], 1, let_go=TOP - 10)
+    for sheet in (laid_store([], 1), laid_store([held], 1), full, byte_changed(full, 100, full[100] ^ 1) + b"\0", number_changed(full, 48, 11)):
+        yield from play.sheet(sheet)
+        for namespace in (7, 6, 0, TOP, 7 + 2**32):
+            yield play("store_offer", namespace, "0 x 0 5 1", LOW)
+            yield play(offer(entry("02", 5, 1), namespace)) if namespace != 7 or sheet is not full else play("store_test")
+        for path in BAD_PATHS:
+            yield play("store_offer 7 0", *path, "5 1", LOW)
+        yield play("store_test")
+    yield "# a count below the buffer's own: the part is offered"
+    for count in (0, 1, 2):
+        yield from play.sheet(laid_store([held], 2))
+        yield play("store_offer 7 0 p01/02", count, "5 10", digest())
+        yield play("store_offer 7 0 p01/02", count, "6 1", digest())
+        yield from read_back(play, 2)
+
+
+def small_stores():
+    yield "# every small size: the paths that are valid there, those that are not, one place too few; N = 0; MCC = 0; MCL = 0"
+    play = Played(StoreHost())
+    for limits in SIZES:
+        for capacity in (0, 1, 2):
+            yield play("room", store_size(limits, capacity))
+            yield play("store_fresh", *limits, capacity, 7)
+            for i, path in enumerate(("01/-", "-", "()", "00", "0000", "-/-", "()")):
+                yield play(offer(entry(path, 7 - i // 2, 2**i)))
+            yield play("store_numbers")
+    yield "# entries and paths read: the buffer exact, short, long; none past the last"
+    play.host.sheet(laid_store([entry("()", 1, 1), entry("-", 2, 2), entry("01/02", TOP, TOP - 3, digest(255, 255), 3)], 4))
+    yield from play.sheet(play.host.buffer)
+    for i in (0, 1, 2, 3, 4, TOP):
+        yield play("store_entry", i)
+        yield from play.room_for("store_entry_path", i)
+
+
+# A sheet to be damaged: what it is laid out from.
+Laid = namedtuple("Laid", "entries capacity limits let_go")
+
+
+def some_stores():
+    """With unused heads and cells, full, with the empty path alone, with no entry, with no room, with an older prefix above."""
+    first, second, third = entry("01", 5, 10, LOW), entry("01/02", 6, 20), entry("()", 1, TOP - 40, HIGH, 3)
+    yield Laid([entry("01", 5, 10, LOW, 3)], 2, (1, 1, 1), 0)
+    yield Laid([first, second], 2, (2, 2, 3), 3)
+    yield Laid([first, second, third], 4, (2, 2, 3), 10)
+    yield Laid([third], 2, (0, 0, 0), 0)
+    yield Laid([], 1, (3, 1, 2), 9)
+    yield Laid([], 0, (0, 2, 0), TOP)
+    yield Laid([entry("()", 1, 0), entry("-", 2, 0), entry("-/-", 3, 0)], 3, (0, 2, 0), 1)
+
+
+def broken_stores():
+    """What a store cannot hold, each beside what it can."""
+    a, b, c, other = entry("01", 5, 10), entry("01/02", 6, 20), entry("02", 1, 40), entry("00", 9, 1, subspace=1)
+    yield "# two equal places, descending places, an older entry below a newer one", [
+        [a, b, c, other], [a, a], [a, entry("01", 6, 10)], [a, entry("01", 4, 10)], [b, a], [a, c, b], [other, a], [a, other, c], [entry("01", subspace=256), entry("01", subspace=1)], [entry("01", subspace=1), entry("01", subspace=256)],
+        [entry("01", subspace=1), entry("00", subspace=2**63)], [entry("0100"), entry("01")], [entry("01"), entry("0100")], [entry("01/-"), entry("01")], [entry("7f"), entry("80")], [entry("80"), entry("7f")],
+    ]
+    chains = [("()", 4), ("00", 5), ("00/01", 6), ("01", 7), ("01/02", 8), ("02", 9)]
+    yield "# below the nearest prefix, below one further up, behind entries that are not below it", [
+        [entry(path, 3 if i == old else time) for i, (path, time) in enumerate(chains) if i not in without] for old in range(6) for without in ((), (3,), (1, 3), (1, 2, 3))
+    ]
+    yield "# ages that differ in the digest or in the length alone", [
+        [entry("()", 5, length, d), entry("01", 5, 4, LOW)] for d in (digest(0x7E), LOW, HIGH) for length in (3, 4, 5)
+    ]
+
+
+def damaged_stores():
+    play, sheets = Played(StoreHost()), list(some_stores())
+    yield from damaged("store", play, sheets, lambda s: laid_store(*s), 64)
+    for comment, kinds in broken_stores():
+        yield comment
+        for entries in kinds:
+            yield from play.sheet(laid_store(entries, len(entries) + 1))
+            yield play("store_test")
+    yield "# held bytes that are not the sum; totals and sums past 2^64 - 1"
+    a, b = entry("01", 5, 10), entry("02", 5, TOP - 9)
+    for entries, held, let_go in (
+        ([a], 10, 0), ([a], 9, 0), ([a], 11, 0), ([a], 0, 10), ([a], 10, TOP - 10), ([a], 10, TOP - 9), ([a], 10, TOP), ([], 0, TOP), ([], 1, TOP), ([], 1, 0), ([a, b], 0, 0), ([a, b], 0, 1), ([a, b], TOP, 0), ([b], TOP - 9, 9), ([b], TOP - 9, 10),
+        ([entry("01", 5, TOP - 10), entry("02", 5, 10)], TOP, 0), ([entry("01", 5, TOP), entry("02", 5, TOP), entry("03", 5, 2)], 0, 0), ([entry("01", 5, 2**63), entry("02", 5, 2**63)], 0, 0),
+    ):
+        yield from play.sheet(laid_store(entries, 3, let_go=let_go, held=held))
+        yield play("store_test")
+        yield play("store_numbers")
+    yield "# each call on a store that is damaged: stale bytes, a byte behind a path, n over N, bad paths, one byte short"
+    data, cells, size = laid_store(*sheets[2]), 64 + 4 * 56, cell_size((2, 2, 3))
+    for at in (64 + 3 * 56, cells - 1, cells + 3 * size, cells + 4 * size - 1, cells + 17, cells + size - 1, cells + 2 * size + 8):
+        yield from on_damaged_store(play, byte_changed(data, at, 1))
+    for at, value in ((32, 5), (32, 2), (24, 3), (cells, 3), (cells, 0), (cells + 8, 3), (cells + size + 8, 3), (cells + size + 16, 0), (cells + size + 16, 4), (cells + size + 16, TOP)):
+        yield from on_damaged_store(play, number_changed(data, at, value))
+    yield from on_damaged_store(play, data[:-1])
+    yield from on_damaged_store(play, data + b"\1")
+
+
+def on_damaged_store(play, sheet):
+    yield from play.sheet(sheet)
+    yield play(offer(entry("01", 5, 10, LOW)))
+    for call in ("store_test", "store_numbers", "store_entry 0", "store_entry 9", "store_entry_path 0 24", "store_entry_path 0 0", "store_entry_path 9 3", "store_offer 8 0 x 0 5 1 " + LOW):
+        yield play(call)
+
+
+def store_forms():
+    rest = f"0 p01 1 5 10 {LOW}"
+    yield from line_forms("store", "store_fresh 1 1 1 1 7", [
+        "store_numbers 0", "store_entry", "store_entry x", "store_entry 0 0", "store_entry_path 0", "store_entry_path 0 256", "store_entry_path 0 257", f"store_offer {rest}", f"store_offer 7 {rest} 1", f"store_offer 7 {rest}00",
+        f"store_offer 7 {rest[:-2]}", "store_offer 7 0 p01 1 5 10 x", "store_offer 7 0 p01 1 5 10 n1/2/3/4", "store_offer 7 0 p01 1 5 10 n1/2/3", "store_offer 7 0 p1 1 5 10 " + LOW, f"store_offer 7 0 p01 1 {TOP + 1} 10 {LOW}", "store_fresh 1 1 1 1",
+    ])
+
+
+def random_entry(r, pool, lengths):
+    """Of few places, times, digests and lengths, so that it often meets another."""
+    return Entry(7, r.choice([0, 0, 1]), tuple(r.choice(pool)), r.randint(0, 3), r.choice(lengths), bytes.fromhex(r.choice([LOW, HIGH, digest()])[1:]))
+
+
+def random_pool(r, limits, valid):
+    """Paths above, below and beside each other, valid ones alone or mostly."""
+    pool, path = [[]], []
+    for _ in range(6):
+        path = tiny_path(r, limits, path)
+        pool += [path[:i] for i in range(1, len(path) + 1)]
+    return [path for path in pool if not valid or given_path(limits, packed(path), len(path)) is not None]
+
+
+def random_lengths(r):
+    return r.choice([[0, 1, 2, 5, 10], [1, 2, 4, 8, 16], [0, 1, TOP // 2, TOP // 2 + 1, TOP // 3], [0, 1, 2, TOP - 3, TOP]][: 2 if r.random() < 0.7 else 4])
+
+
+def random_offer(r, limits, pool, lengths, said):
+    """Now and then of another namespace, with a bad path, or one that was made before."""
+    if said and r.random() < 0.15:
+        return r.choice(said)
+    e = random_entry(r, pool, lengths)
+    count = max(0, len(e.path) + r.choice([-1, 1] + [0] * 30))
+    path = random_buffer(r, e.path) if r.random() < 0.1 else shown(e.path)
+    return words("store_offer", 8 if r.random() < 0.02 else 7, e.subspace, path, count, e.timestamp, e.payload_length, "x" + e.digest.hex())
+
+
+def random_store(r, play):
+    """A list of 5 to 30 offers from a fresh store, mostly the shorter, and what is held then read; now and then it is damaged."""
+    limits, capacity = r.choice([(0, 0, 0), (1, 1, 1), (1, 1, 1), (1, 2, 2), (1, 2, 2), (2, 2, 3), (0, 2, 0), (3, 1, 2)]), r.choice([0, 1, 1, 1, 2, 2, 2, 3, 3, 4, 5])
+    pool, lengths, said = random_pool(r, limits, r.random() < 0.8), random_lengths(r), []
+    yield play("room", store_size(limits, capacity) + r.choice([0, 0, 0, 2]))
+    yield play("store_fresh", *limits, capacity, 7)
+    for _ in range(min(r.randint(5, 30) for _ in range(5))):
+        said.append(random_offer(r, limits, pool, lengths, said))
+        yield play(said[-1])
+        if r.random() < 0.01:
+            yield from pokes(r, play, "store_test")
+    yield play("store_numbers")
+    yield play("store_entry", r.randint(0, capacity))
+    yield play("store_entry_path", r.randint(0, capacity), r.choice([40, 40, 0, 8, 24]))
+    if r.random() < 0.05:
+        yield play("store_test_each", r.choice([1, 2, 3, 128, 255]))
+
+
+def random_sheet(r, play):
+    """Entries laid out as a store whether one could hold them or not, mostly ascending, and tested."""
+    limits = r.choice([(1, 2, 2), (1, 4, 4), (1, 4, 4), (1, 3, 2)])
+    pool, lengths = random_pool(r, limits, r.random() < 0.95), random_lengths(r)
+    entries = [random_entry(r, pool, lengths) for _ in range(r.randint(1, 6))]
+    if r.random() < 0.9:
+        entries = sorted({place(e): e for e in entries}.values(), key=place)
+    if r.random() < 0.7:
+        # Mostly newer further down, as it has to be there.
+        entries = [e._replace(timestamp=e.timestamp + r.choice([2, 4, 4, 4]) * len(e.path)) for e in entries]
+    if any(len(packed(e.path)) > cell_size(limits) for e in entries):
+        return
+    held = (bytes_of(entries) + r.choice([1, -1] + [0] * 30)) % 2**64
+    yield from play.sheet(laid_store(entries, len(entries) + r.choice([0, 0, 1]), limits, r.choice([0, 0, 0, 5, TOP - 10]), held))
+    yield play("store_test")
+    if r.random() < 0.5:
+        yield play(offer(random_entry(r, pool, lengths)))
+
+
+def random_stores(r, play):
+    yield from random_sheet(r, play) if r.random() < 0.4 else random_store(r, play)
+
+
 def main():
     maps = [fresh_sheets("map", map_size), filled_maps(), inserts(), listings(), damaged_maps(), map_forms(), randoms(MapHost(), random_map, 700, 6)]
     store_cases("vectors_map", MapHost().answer, maps)
+    stores = [stated_stores(), fresh_sheets("store", store_size, "7"), two_offers(), prunings(), full_totals(), refused_offers(), small_stores(), damaged_stores(), store_forms()]
+    store_cases("vectors_store", StoreHost().answer, stores + [randoms(StoreHost(), random_stores, 2800, 7)])
 
 
 def main_random(name, lines, seed, folder):
-    host, one = {"map": (MapHost, random_map)}[name]
+    host, one = {"map": (MapHost, random_map), "store": (StoreHost, random_stores)}[name]
     play = host()
     with open(f"{folder}/stdin", "w", newline="") as stdin, open(f"{folder}/stdout", "w", newline="") as stdout:
         for line in randoms(host(), one, int(lines), int(seed)):

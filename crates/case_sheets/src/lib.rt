@@ -11,7 +11,9 @@
 
 use case_forms::asks;
 use case_forms::number;
+use cases::answers;
 use cases::arguments::given_buffer;
+use libc::STDOUT_FILENO;
 ghost use Prim.Native.Nat.{_≤_, _<_};
 ghost use mathlib.Core.Path.{_≡_};
 ghost use lib.ListN.{length};
@@ -121,4 +123,11 @@ pub fn change(sheet: &mut [u8], at: usize, v: u8)
     requires { ⌜ at < length (now sheet) ⌝ }
 {
     sheet[at] = sheet[at] ^ v;
+}
+
+// Bytes that end a print.
+pub fn print_buffer(bytes: &[u8]) {
+    io::write_all(STDOUT_FILENO, b" ");
+    answers::print_bytes(bytes);
+    io::write_all(STDOUT_FILENO, b"\n");
 }
