@@ -1,4 +1,1 @@
-pub mod LengthLaws
-pub mod AdmissionLaws
-pub mod ExtendedLaws
 pub mod MakingLaws

@@ -30,8 +30,9 @@ use Rattle.number.specs.Overwriting.{overwrite, zeros}
 use Rattle.number.proofs.OverwritingLaws.{overwrite-all, length-zeros, number-zeros}
 use Rattle.lent_path.proofs.LentLaws.{asked}
 use Rattle.lent_path.proofs.TestLaws.{readable}
-use Rattle.construction.specs.Making.{outcomeRefusal, refusedAs, underLimits, slicesOutcome, iterOutcome, emptyOutcome, singletonOutcome, appendedOf, slicesAppendedOf, Extendable}
-use Rattle.construction.proofs.AdmissionLaws.{whole}
+use Rattle.extension.specs.Extending.{outcomeRefusal, Extendable}
+use Rattle.construction.specs.Making.{refusedAs, underLimits, slicesOutcome, iterOutcome, emptyOutcome, singletonOutcome, appendedOf, slicesAppendedOf}
+use Rattle.extension.proofs.AdmissionLaws.{whole}
 
 -- a refusal that is handed on
 pub made-refused : (o : Outcome Path) (t : Tested) (r : Refusal) (n : Outcome ℕ) (out : List ℕ) → n ≡ refusedAs (testedRefusal t) → t ≡ tested.Refused r

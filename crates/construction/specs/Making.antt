@@ -1,27 +1,17 @@
 -- What the constructing calls make, each by the rules of `from_slices` (willow/specs/Construction.antt).
-use Prim.Native.Nat.{ℕ, _+_, _/_, _≤_}
-use mathlib.Core.List.{List, [], _∷_, _++_}
+use Prim.Native.Nat.{ℕ}
+use mathlib.Core.List.{List, [], _∷_}
 use mathlib.Core.Option.{Option, none, some}
-use mathlib.Core.Path.{_≡_}
-use mathlib.Core.Bool.{true, cond}
+use mathlib.Core.Bool.{cond}
 use lib.Dec.{eqb}
 use lib.ListN.{length}
 use Rattle.willow.specs.declared.Limits.{Limits}
 use Rattle.willow.specs.declared.Refusal.{Refusal}
 use Rattle.willow.specs.declared.Refusal.the-variants.{BadLengths}
-use Rattle.packed.specs.Readable.{Readable}
-use Rattle.willow.specs.Answers.{unless, limitsRefusal, pathIn}
-use Rattle.willow.specs.Construction.{admitted, lengthsFit, fromSlices, append, appendSlice}
-use Rattle.willow.specs.Limits.{maxMCC, maxMPL}
-use Rattle.willow.specs.Numbers.{le}
-use Rattle.willow.specs.Paths.{Component, Path, pathLength}
+use Rattle.willow.specs.Answers.{unless, limitsRefusal}
+use Rattle.willow.specs.Construction.{admitted, fromSlices, append, appendSlice}
+use Rattle.willow.specs.Paths.{Component, Path}
 use Rattle.willow.specs.Refusals.{Outcome, refused, absent, value}
-
--- Why an outcome is refused, if it is.
-abbrev pub outcomeRefusal : {A : Type 0} → Outcome A → Option Refusal
-outcomeRefusal (refused r) = some r
-outcomeRefusal absent = none
-outcomeRefusal (value x) = none
 
 -- The outcome of a refusal that is handed on.
 abbrev pub refusedAs : Option Refusal → Outcome ℕ
@@ -53,16 +43,3 @@ appendedOf L c p = append L p c
 
 abbrev pub slicesAppendedOf : Limits → List ℕ → List ℕ → Path → Outcome Path
 slicesAppendedOf L lengths bytes p = appendSlice L p lengths bytes
-
--- The accumulated lengths of components of these lengths, in 8-byte numbers, where `from` bytes stand before them.
-abbrev pub accumulatedBy : ℕ → List ℕ → List ℕ
-accumulatedBy from [] = []
-accumulatedBy from (n ∷ ns) = le 8 (from + n) ++ accumulatedBy (from + n) ns
-
--- What the writing takes for granted of a path with slices behind it: the path can be read, the lengths fit the bytes, and the
--- whole is within the bounds.
-pub record Extendable (b : List ℕ) (k : ℕ) (lengths bytes : List ℕ) : Type 0 where
-  pub path-readable : Readable b k
-  pub lengths-fit : lengthsFit lengths bytes ≡ true
-  pub few : k + length lengths / 8 ≤ maxMCC
-  pub short : pathLength (pathIn b k) + length bytes ≤ maxMPL

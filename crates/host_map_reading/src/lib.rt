@@ -5,12 +5,12 @@
 use area::Area;
 use convention::Answer;
 use convention::counted;
-use map_listing::RuleRead;
+use map_reading::RuleRead;
 ghost use mathlib.Core.Path.{_≡_};
 ghost use Rattle.willow.specs.Answers.{writtenBuffer, writtenLength};
 ghost use Rattle.convention.specs.Exports.{given, itself};
 ghost use Rattle.area_kinds.specs.AreaKinds.{parts};
-ghost use Rattle.map_listing.specs.Rules.{countOutcome, ruleOutcome, rulePath, ruleRead};
+ghost use Rattle.map_reading.specs.Rules.{countOutcome, ruleOutcome, rulePath, ruleRead};
 ghost use Rattle.host_map_reading.specs.MapExports.{givenRule, noRule, ruleAnswer};
 
 // A rule as an answer: 0, a refusal's number or 255 for none; its area but for the path, of which it has the count; its value. Zeros
@@ -78,7 +78,7 @@ fn rule_read(r: RuleRead) -> RuleAnswer
 pub extern "C" fn wotskrale_map_count(sheet: &[u8]) -> Answer
     ensures { λ r. ⌜ r ≡ given itself (countOutcome (now (sheet .entry))) ⌝ }
 {
-    counted(map_listing::rule_count(sheet))
+    counted(map_reading::rule_count(sheet))
 }
 
 // Rule i but for its path; none past the last. Refuses 2.
@@ -86,7 +86,7 @@ pub extern "C" fn wotskrale_map_count(sheet: &[u8]) -> Answer
 pub extern "C" fn wotskrale_map_rule(sheet: &[u8], i: u64) -> RuleAnswer
     ensures { λ r. ⌜ r ≡ givenRule (ruleRead (now (sheet .entry)) i) ⌝ }
 {
-    rule_read(map_listing::rule(sheet, i))
+    rule_read(map_reading::rule(sheet, i))
 }
 
 // The packed path of rule i written to the front of a buffer; answers its length, none past the last. Refuses 2, then 15.
@@ -95,5 +95,5 @@ pub extern "C" fn wotskrale_map_rule_path(sheet: &[u8], i: u64, out: &mut [u8]) 
     ensures { λ r. ⌜ r ≡ given itself (writtenLength (rulePath (now (sheet .entry)) i) (now (out .entry))) ⌝ }
     ensures { λ _. ⌜ now (out .exit) ≡ writtenBuffer (rulePath (now (sheet .entry)) i) (now (out .entry)) ⌝ }
 {
-    counted(map_listing::write_rule_path(sheet, i, out))
+    counted(map_reading::write_rule_path(sheet, i, out))
 }

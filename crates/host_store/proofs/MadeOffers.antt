@@ -5,7 +5,7 @@ use mathlib.Core.List.{List}
 use Rattle.willow.specs.Store.{offer}
 use Rattle.entry.specs.declared.Head.{Head}
 use Rattle.store_law.specs.Offers.{answerIn, leavesIn}
-use Rattle.store.specs.Calls.{offerOf}
+use Rattle.store_answers.specs.Calls.{offerOf}
 
 module _ (s : List ℕ) (n : ℕ) (b : List ℕ) (k : ℕ) (h g : Head) (e : h ≡ g) where
   pub answer-made : answerIn s (offer (offerOf n h b k)) ≡ answerIn s (offer (offerOf n g b k))

@@ -8,7 +8,7 @@
 use convention::Answer;
 use convention::counted;
 use convention::tested;
-use store::Offered;
+use store_answers::Offered;
 use willow::Limits;
 ghost use mathlib.Core.Path.{_≡_};
 ghost use Rattle.willow.specs.Answers.{writtenBuffer, writtenLength};
@@ -16,7 +16,7 @@ ghost use Rattle.willow.specs.Store.{offer};
 ghost use Rattle.convention.specs.Exports.{given, itself, limitsOf, refusalStatus};
 ghost use Rattle.store_form.specs.StoreTest.{storeRefusal};
 ghost use Rattle.store_law.specs.Offers.{answerIn, freshStore, leavesIn};
-ghost use Rattle.store.specs.Calls.{answerOf};
+ghost use Rattle.store_answers.specs.Calls.{answerOf};
 ghost use Rattle.host_store.specs.StoreExports.{givenOffer};
 
 // What an offer is answered: 0 or a refusal's number; taken 0, outdated 1 or repeat 2; how many entries a taken offer pruned. Zeros
@@ -69,7 +69,7 @@ pub extern "C" fn wotskrale_store_fresh(
     ensures { λ r. ⌜ r ≡ given itself (writtenLength (freshStore (record { limits = limitsOf mcl mcc mpl; capacity = capacity; namespace = namespace })) (now (out .entry))) ⌝ }
     ensures { λ _. ⌜ now (out .exit) ≡ writtenBuffer (freshStore (record { limits = limitsOf mcl mcc mpl; capacity = capacity; namespace = namespace })) (now (out .entry)) ⌝ }
 {
-    counted(store::fresh(Limits { mcl, mcc, mpl }, capacity, namespace, out))
+    counted(store_making::fresh(Limits { mcl, mcc, mpl }, capacity, namespace, out))
 }
 
 // Whether a buffer begins with a store: 0 or 2.

@@ -1,4 +1,4 @@
-pub mod RuleAtLaws
-pub mod MeetingLaws
 pub mod ListCallLaws
 pub mod ListingProofs
+pub mod MeetingLaws
+pub mod MeetsLaws

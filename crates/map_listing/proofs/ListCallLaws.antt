@@ -1,12 +1,10 @@
--- The calls on a map: what was tested and read decides which answer it is. A map that passed has accepted limits, so only 3 and 5
+-- The listing of a map: what was tested and read decides which answer it is. A map that passed has accepted limits, so only 3 and 5
 -- are left for an area that is passed.
-use Prim.Native.Nat.{ℕ, _≤_, _<_}
+use Prim.Native.Nat.{ℕ}
 use mathlib.Core.Path.{_≡_, refl, sym, _∙_, ap}
 use mathlib.Core.List.{List}
 use mathlib.Core.Option.{Option, none, some}
 use mathlib.Core.Bool.{true, false}
-use native.Mathlib.Omega.{arith}
-use borrow.Author.Tests.{lt-ltb, le-ltb}
 use Rattle.willow.specs.declared.AreaSubspace.{AreaSubspace}
 use Rattle.willow.specs.declared.Limits.{Limits}
 use Rattle.willow.specs.declared.Refusal.{Refusal}
@@ -15,72 +13,25 @@ use Rattle.willow.specs.declared.Tested.{Tested}
 use Rattle.willow.specs.Answers.{unless, orElse, testedRefusal, limitsRefusal, lentRefusal, pathIn, pathRefusal, writtenBuffer}
 use Rattle.willow.specs.Areas.{subspaceFrom}
 use Rattle.willow.specs.Limits.{acceptedLimits}
-use Rattle.willow.specs.Numbers.{Bytes}
-use Rattle.willow.specs.Packed.{pack}
 use Rattle.willow.specs.Ranges.{Range}
 use Rattle.willow.specs.Refusals.{Outcome, refused, absent, value}
 use Rattle.willow.proofs.LimitLaws.{limit-laws}
 use Rattle.kinds.specs.Kinds.{both, ofKinds, onKinds, rangeFrom}
 use Rattle.kinds.proofs.KindLaws.{answered, kinds-fine, kinds-answered}
-use Rattle.sheet.specs.Cells.{usedPart}
-use Rattle.sheet.specs.Rows.{cell}
 use Rattle.area.specs.declared.Area as code
 use Rattle.area.specs.LentAreas.{areaIn}
 use Rattle.area_kinds.specs.AreaKinds.{Parts, parts, partsOf, areaFrom, areaWith}
-use Rattle.map_form.specs.Maps.{sizesIn, countIn, rulesIn}
+use Rattle.map_form.specs.Maps.{sizesIn, rulesIn}
 use Rattle.map_form.specs.MapTest.{isMap}
 use Rattle.map_form.proofs.MapTestLaws.{map-passed}
-use Rattle.map_rules.specs.RulePlaces.{mapRow}
-use Rattle.map_rules.proofs.RowReadLaws.{part-whole}
 use Rattle.map_law.specs.Insertions.{AreaArgument, partsIn, kindsMissing, areaRefusal, areaPassed}
 use Rattle.map_listing.specs.Listings.{positions, positionsFor, listing, listedNumber, listedBytes}
-use Rattle.map_listing.specs.Rules.{countOutcome, ruleAt, ruleParts, ruleRead, rulePath}
-use Rattle.map_listing.proofs.RuleAtLaws.{rule-at}
 
--- READING. No map: 2.
+-- No map: 2.
 module _ (s : List ℕ) (failed : isMap s ≡ false) where
-  pub count-bad : refused BadSheet ≡ countOutcome s
-  unfolding countOutcome
-  count-bad = rw failed
-
-  pub rule-bad : (i : ℕ) → refused BadSheet ≡ ruleRead s i
-  unfolding ruleRead
-  rule-bad i = rw failed
-
-  pub path-bad : (i : ℕ) → refused BadSheet ≡ rulePath s i
-  unfolding rulePath
-  path-bad i = rw failed
-
   pub listing-bad : (x : AreaArgument) → refused BadSheet ≡ listing s x
   unfolding listing areaRefusal
   listing-bad x = rw failed
-
--- A map: how many rules it has, and rule i, or none past the last.
-module _ (s : List ℕ) (passed : isMap s ≡ true) where
-  pub count-read : (n : ℕ) → n ≡ countIn s → value n ≡ countOutcome s
-  unfolding countOutcome
-  count-read n e = rw passed (ap value e)
-
-  module _ (i n : ℕ) (e : n ≡ countIn s) where
-    pub rule-none : n ≤ i → absent ≡ ruleRead s i
-    unfolding ruleRead
-    rule-none h = rw (passed, ← e, le-ltb i n h)
-
-    pub path-none : n ≤ i → absent ≡ rulePath s i
-    unfolding rulePath
-    path-none h = rw (passed, ← e, le-ltb i n h)
-
-    pub rule-there : i < n → value (ruleParts (ruleAt s i)) ≡ ruleRead s i
-    unfolding ruleRead
-    rule-there h = rw (passed, ← e, lt-ltb i n h)
-
-    -- its path, as it was cut out of its cell
-    pub path-there : i < n → Bytes s → (b : List ℕ) → b ≡ usedPart (cell (mapRow s i)) → value b ≡ rulePath s i
-    unfolding rulePath
-    path-there h bytes b same =
-        let k : i < countIn s = omega arith in
-        let whole : b ≡ pack (ruleAt s i .area .path) = part-whole s i passed k b same bytes ∙ ap (λ r. pack (r .area .path)) (sym (rule-at s passed i k)) in
-        rw (passed, ← e, lt-ltb i n h) (ap value whole)
 
 -- AN AREA THAT WAS READ has the count that was passed.
 abbrev countOr : ℕ → Outcome Parts → ℕ

@@ -21,7 +21,7 @@ use Rattle.number.proofs.OverwritingLaws.{length-overwrite, overwrite-at-front,
 use Rattle.number.proofs.RecordLaws.{sized-all, length-laid}
 use Rattle.map_form.specs.Maps.{Rule}
 use Rattle.map_listing.specs.Listings.{meets, positionsFrom, positions, listedNumber, listedBytes}
-use Rattle.map_listing.specs.Rules.{noRule}
+use Rattle.map_reading.specs.Rules.{noRule}
 
 -- there are no more positions than rules
 positions-from-few : (a : Area) (i : ℕ) (rules : List Rule) → length (positionsFrom a i rules) ≤ length rules

@@ -1,6 +1,5 @@
-// The rules of a map that was tested: one of them, and which of them meet an area. They are not open to a caller.
+// Which rules of a map that was tested meet an area. They are not open to a caller.
 
-use crate::RuleRead;
 use area::Area;
 use area_intersection::AreaMet;
 use map_rules::inner as rules;
@@ -20,19 +19,7 @@ ghost use Rattle.area.specs.LentAreas.{areaIn};
 ghost use Rattle.map_form.specs.Maps.{countIn, rulesIn};
 ghost use Rattle.map_form.specs.MapTest.{isMap};
 ghost use Rattle.map_listing.specs.Listings.{listedBytes, listedNumber, meets, positions};
-ghost use Rattle.map_listing.specs.Rules.{ruleAt, ruleOutcome, ruleParts};
-
-// Rule i but for its path.
-pub fn rule(sheet: &[u8], i: usize) -> RuleRead
-    requires { ⌜ (isMap (now sheet) ≡ true) × (i < countIn (now sheet)) ⌝ }
-    ensures { λ r. ⌜ ruleOutcome r ≡ value (ruleParts (ruleAt (now (sheet .entry)) i)) ⌝ }
-{
-    let count = number::read_u64(rules::rule_path(sheet, i), 0);
-    RuleRead::Is(
-        rules::rule_area(sheet, i, count),
-        rules::rule_value(sheet, i),
-    )
-}
+ghost use Rattle.map_reading.specs.Rules.{ruleAt};
 
 // Whether the area of rule i and another intersect.
 fn row_meets(sheet: &[u8], i: usize, area: Area, base: &[u8]) -> bool

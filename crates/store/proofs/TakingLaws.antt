@@ -39,14 +39,14 @@ use Rattle.store_rows.proofs.RowEntryLaws.{store-readable}
 use Rattle.store_scan.specs.declared.Scan.{Scan}
 use Rattle.store_scan.specs.Scans.{nothingMet, scanned}
 use Rattle.store_closing.specs.Filing.{staysBy, putAt}
-use Rattle.store.specs.declared.Offered.{Offered}
-use Rattle.store.specs.declared.Offered.the-variants as offered
-use Rattle.store.specs.Calls.{answerOf}
+use Rattle.store_answers.specs.declared.Offered.{Offered}
+use Rattle.store_answers.specs.declared.Offered.the-variants as offered
+use Rattle.store_answers.specs.Calls.{answerOf}
 use Rattle.store.specs.Taking.{entryAnswer, entryLeaves, rowsLeft, filedRows, withCounts}
 use Rattle.store.proofs.FiledLaws.{withAt, length-with-at, map-with-at, closed-filled, put-filled}
 use Rattle.store.proofs.MeetingLaws as meeting
 use Rattle.store.proofs.NamedLaws.{rows-stay}
-use Rattle.store.proofs.TableLaws.{taken-means}
+use Rattle.store_answers.proofs.TableLaws.{taken-means}
 use Rattle.store.proofs.WriteLaws.{as-found, let-go-put, counts-put}
 
 -- THE PATH of an offer is packed in no more bytes than a cell has.

@@ -1,40 +1,18 @@
 // The store (document 01, "Sheets"): entries filed in a sheet in lent memory. The store's limits, capacity and namespace stand in the
-// sheet itself. What every list of offers to a fresh store leaves is `Demand3OnBytes` (crate `store_law`).
+// sheet itself. What every list of offers to a fresh store leaves is `Demand3OnBytes` (crate `store_law`); a fresh store is made by
+// crate `store_making`.
 
 pub mod inner;
 
 use entry::Head;
-use willow::Counted;
+use store_answers::Offered;
 use willow::Limits;
 use willow::Refusal;
 use willow::Tested;
 ghost use mathlib.Core.Path.{_≡_};
-ghost use Rattle.willow.specs.Answers.{countedOutcome, writtenBuffer, writtenLength};
 ghost use Rattle.willow.specs.Store.{offer};
-ghost use Rattle.store_law.specs.Offers.{answerIn, freshStore, leavesIn};
-ghost use Rattle.store.specs.Calls.{answerOf, offerOf};
-
-// What an offer is answered; taken comes with how many entries it pruned.
-pub enum Offered {
-    Refused(Refusal),
-    Outdated,
-    Repeat,
-    Taken(u64),
-}
-
-// A fresh store of these sizes and this namespace written to the front of a buffer, of which nothing is read; answers its length.
-// Refuses 1, then 15.
-pub fn fresh(limits: Limits, capacity: u64, namespace: u64, out: &mut [u8]) -> Counted
-    ensures { λ r. ⌜ countedOutcome r ≡ writtenLength (freshStore (record { limits = limits; capacity = capacity; namespace = namespace })) (now (out .entry)) ⌝ }
-    ensures { λ _. ⌜ now (out .exit) ≡ writtenBuffer (freshStore (record { limits = limits; capacity = capacity; namespace = namespace })) (now (out .entry)) ⌝ }
-{
-    if willow::limits_accepted(limits) {
-        if willow::capacity_accepted(capacity) {
-            return inner::make(limits, capacity, namespace, out);
-        }
-    }
-    Counted::Refused(Refusal::BadLimits)
-}
+ghost use Rattle.store_law.specs.Offers.{answerIn, leavesIn};
+ghost use Rattle.store_answers.specs.Calls.{answerOf, offerOf};
 
 // An entry offered: its namespace, its head, and its path as a buffer with a count. Refuses 2, then 4, then 5, then 13, then 14. Room
 // freed by pruning is used by the same offer.

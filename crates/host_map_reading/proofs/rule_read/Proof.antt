@@ -1,7 +1,7 @@
 -- One equation for each case of the answer.
 use mathlib.Core.Path.{sym, _∙_, ap}
-use Rattle.map_listing.specs.declared.RuleRead.{RuleRead}
-use Rattle.map_listing.specs.Rules.{ruleOutcome}
+use Rattle.map_reading.specs.declared.RuleRead.{RuleRead}
+use Rattle.map_reading.specs.Rules.{ruleOutcome}
 use Rattle.host_map_reading.specs.MapExports.{givenRule, noRule}
 use Rattle.host_map_reading.specs.declared.RuleAnswer.{RuleAnswer}
 use borrow.Author.Needs.{needs}

@@ -1,7 +1,7 @@
 -- One equation for each case of the answer.
 use mathlib.Core.Path.{sym, _∙_, ap}
-use Rattle.store.specs.declared.Offered.{Offered}
-use Rattle.store.specs.Calls.{answerOf}
+use Rattle.store_answers.specs.declared.Offered.{Offered}
+use Rattle.store_answers.specs.Calls.{answerOf}
 use Rattle.host_store.specs.StoreExports.{givenOffer, noOffer}
 use Rattle.host_store.specs.declared.OfferAnswer.{OfferAnswer}
 use borrow.Author.Needs.{needs}

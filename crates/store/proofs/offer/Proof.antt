@@ -13,7 +13,7 @@ use Rattle.lent_path.proofs.TestLaws.{one-passed}
 use Rattle.store_form.specs.Stores.{sizesIn}
 use Rattle.store_form.specs.StoreTest.{isStore}
 use Rattle.store_form.proofs.TestedLaws.{known}
-use Rattle.store.specs.Calls.{offerOf}
+use Rattle.store_answers.specs.Calls.{offerOf}
 use Rattle.store.proofs.OfferLaws.{not-a-store, wrong-namespace, path-refused, as-entry}
 use borrow.Author.Needs.{needs}
 use Rattle.store.proofs.offer.Statement.{statement}

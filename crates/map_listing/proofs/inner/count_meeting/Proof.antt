@@ -9,7 +9,7 @@ use Rattle.area.specs.LentAreas.{areaIn}
 use Rattle.map_form.specs.Maps.{rulesIn}
 use Rattle.map_form.proofs.MapTestLaws.{map-passed}
 use Rattle.map_listing.proofs.MeetingLaws.{Counting, counting-starts, counts, passes-over, counted-all}
-use Rattle.map_listing.proofs.RuleAtLaws.{rules-many, rules-few}
+use Rattle.map_reading.proofs.RuleAtLaws.{rules-many, rules-few}
 use Rattle.map_listing.proofs.inner.count_meeting.Statement.{statement}
 use Rattle.map_listing.proofs.inner.count_meeting.Tie as tie
 

@@ -7,7 +7,7 @@ use Rattle.area.specs.LentAreas.{areaIn}
 use Rattle.map_form.specs.Maps.{rulesIn}
 use Rattle.map_listing.specs.Listings.{positions}
 use Rattle.map_listing.proofs.MeetingLaws.{positions-few, listed-short, listed-all}
-use Rattle.map_listing.proofs.RuleAtLaws.{rules-many, rules-few}
+use Rattle.map_reading.proofs.RuleAtLaws.{rules-many, rules-few}
 use borrow.Author.Needs.{needs}
 use Rattle.map_listing.proofs.inner.list.Statement.{statement}
 use Rattle.map_listing.proofs.inner.list.Tie as tie

@@ -8,8 +8,9 @@ use Rattle.map_form.specs.Maps.{ruleIn}
 use Rattle.map_rules.specs.RulePlaces.{mapRow}
 use Rattle.map_rules.proofs.RowReadLaws.{part-long, part-counted, part-path, part-readable}
 use Rattle.map_listing.specs.Listings.{meets}
-use Rattle.map_listing.specs.Rules.{ruleAt}
-use Rattle.map_listing.proofs.RuleAtLaws.{rule-at, area-whole, isAnswered, met-meets}
+use Rattle.map_reading.specs.Rules.{ruleAt}
+use Rattle.map_listing.proofs.MeetsLaws.{isAnswered, met-meets}
+use Rattle.map_reading.proofs.RuleAtLaws.{rule-at, area-whole}
 use borrow.Author.Needs.{needs}
 use Rattle.map_listing.proofs.inner.row_meets.Statement.{statement}
 use Rattle.map_listing.proofs.inner.row_meets.Tie as tie

@@ -1,0 +1,2 @@
+pub mod RuleAtLaws
+pub mod RuleCallLaws
