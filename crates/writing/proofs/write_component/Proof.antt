@@ -1,5 +1,6 @@
 -- The test refuses, or there is no answer, and nothing is written; else the part is written to the front if it fits.
 use mathlib.Core.Path.{refl}
+use native.Mathlib.Omega.{arith}
 use Rattle.reading.specs.Reading.{componentOf}
 use Rattle.reading.proofs.TestLaws.{one-passed, one-refused, readable}
 use Rattle.willow.proofs.AnswerLaws.{written-as}
@@ -18,7 +19,7 @@ enum-told : tie.Need-enum-told
 enum-told c = search needs
 
 component-requires : tie.Need-component-requires
-component-requires c κs = (readable _ _ _ (one-passed _ _ _ _ (c .before .before .before .test .ensures) (c .before .enum-told .given .1)) .packed, component-there _ _ _ (one-passed _ _ _ _ (c .before .before .before .test .ensures) (c .before .enum-told .given .1)) _ (c .if1 .taken))
+component-requires c κs = (readable _ _ _ (one-passed _ _ _ _ (c .before .before .before .test .ensures) (c .before .enum-told .given .1)) .packed, omega (arith, component-there _ _ _ (one-passed _ _ _ _ (c .before .before .before .test .ensures) (c .before .enum-told .given .1)) _ (c .if1 .taken)))
 
 write-part-requires : tie.Need-write-part-requires
 write-part-requires c κs = search needs
