@@ -571,7 +571,7 @@ def damaged(name, play, sheets, lay, header):
         for line in (f"cut {len(sheet) - 1}", f"more x{sheet[-1]:02x}", "more xff", f"cut {header}", f"cut {header - 1}", "cut 0"):
             yield play(line)
             yield play(f"{name}_test")
-    yield f"# each number before the heads changed"
+    yield "# each number before the heads changed"
     for sheet in sheets[1:3] + sheets[4:6]:
         for at in range(0, header, 8):
             for value in (0, 1, 2, 3, 4, 1024, 1025, 4096, 4097, TOP):
@@ -579,9 +579,21 @@ def damaged(name, play, sheets, lay, header):
                 yield play(f"{name}_test")
 
 
+# Limits, and a path that fits into a cell of theirs: at one limit, and past it alone.
+FITTING = [
+    ((4, 2, 3), (b"\1\2\3",)), ((4, 2, 3), (b"\1\2\3\4",)), ((2, 3, 3), (b"\1\2", b"\3")), ((2, 3, 3), (b"\1\2", b"\3\4")), ((2, 2, 3), (b"\1\2",)), ((2, 2, 3), (b"\1\2\3",)),
+    ((1, 1, 8), (b"",)), ((1, 1, 8), (b"", b"")), ((0, 2, 0), (b"", b"")), ((0, 1, 1), (b"\1",)), ((0, 1, 1), (b"",)),
+]
+
+
 def damaged_maps():
     play, sheets = Played(MapHost()), list(some_maps())
     yield from damaged("map", play, sheets, lay_map, 40)
+    yield "# a path in a cell at MCL, MCC or MPL, and past one of them alone"
+    for limits, path in FITTING:
+        yield from play.sheet(lay_map(Map(limits, 1, [Rule(Area(4, path, Range(3, 9)), 7)])))
+        yield play("map_test")
+        yield play("map_rule_path 0 32")
     yield "# sizes over the bounds alone, with no rule and no room for any; n over N"
     for sizes in ((1024, 1024, 4096), (1025, 0, 0), (0, 1025, 0), (0, 0, 4097)):
         for rest in ((0, 0), (0, 1)):
@@ -591,8 +603,8 @@ def damaged_maps():
     yield "# each call on a map that is damaged: kind 2 in a head, a number beside kind 0, a byte behind a path, stale bytes, n over N, bad paths"
     good = sheets[2]
     data, cells, size = lay_map(good), 40 + 3 * 48, cell_size(good.limits)
-    heads = [("kind of subspaces", 40, 2), ("kind of end", 40 + 24, 2), ("kind of end", 40 + 48 + 24, TOP)]
-    for name, at, value in heads + [("beside kind 0", 40 + 48 + 8, 1), ("beside kind 0", 40 + 32, 1), ("count", cells + size, 3), ("count", cells, 1), ("last length", cells + size + 16, 4), ("last length", cells + size + 16, 0)]:
+    heads = [(40, 2), (40 + 24, 2), (40 + 48 + 24, TOP), (40 + 48 + 8, 1), (40 + 32, 1)]
+    for at, value in heads + [(cells + size, 3), (cells, 1), (cells + size + 16, 4), (cells + size + 16, 0)]:
         yield from on_damaged(play, number_changed(data, at, value))
     for kind, beside in ((0, 0), (0, 4), (0, TOP), (1, 0), (2, 0), (2, 4)):
         yield from play.sheet(number_changed(number_changed(data, 40 + 48, kind), 40 + 48 + 8, beside))
@@ -609,8 +621,8 @@ def damaged_maps():
 def on_damaged(play, sheet):
     yield from play.sheet(sheet)
     yield play("map_insert 1 4 p01 1 3 1 9 7")
-    for call in ("map_test", "map_count", "map_rule 0", "map_rule 9", "map_rule_path 0 16", "map_rule_path 0 0", "map_rule_path 9 3", "map_intersecting 0 0 p() 0 0 0 0 24", "map_intersecting 2 0 x 0 0 0 0 3"):
-        yield play(call)
+    for call in ("test", "count", "rule 0", "rule 9", "rule_path 0 16", "rule_path 0 0", "rule_path 9 3", "intersecting 0 0 p() 0 0 0 0 24", "intersecting 2 0 x 0 0 0 0 3"):
+        yield play(f"map_{call}")
 
 
 def line_forms(name, fresh, reading):
@@ -635,8 +647,8 @@ def line_forms(name, fresh, reading):
 def map_forms():
     area = "1 4 p01 1 3 1 9"
     yield from line_forms("map", "map_fresh 1 1 1 1", [
-        "map_count 0", "map_rule", "map_rule x", "map_rule 0 0", "map_rule_path 0", "map_rule_path 0 256", "map_rule_path 0 257", f"map_insert {area}", f"map_insert {area} 1 1", f"map_insert {area} -1",
-        f"map_insert {area} {TOP + 1}", f"map_intersecting {area}", f"map_intersecting {area} 257", "map_insert 1 4 01 1 3 1 9 7", "map_insert 1 4 p1 1 3 1 9 7", "map_count ", " map_count", "MAP_COUNT",
+        "map_count 0", "map_rule", "map_rule x", "map_rule 0 0", "map_rule_path 0", "map_rule_path 0 256", "map_rule_path 0 257", f"map_insert {area}",
+        f"map_insert {area} 1 1", f"map_insert {area} -1", f"map_insert {area} {TOP + 1}", f"map_intersecting {area}", f"map_intersecting {area} 257", "map_insert 1 4 01 1 3 1 9 7", "map_insert 1 4 p1 1 3 1 9 7", "map_count ", " map_count", "MAP_COUNT",
     ])
 
 
@@ -779,7 +791,7 @@ def prunings():
                 yield from play.sheet(laid_store(entries, capacity, let_go=3) + b"\xab")
                 yield play(offer(entry(path, time, 5, HIGH, subspace)))
     yield "# a free place: filed first, between, last, by subspace and then path"
-    for subspace, path in ((0, "ff"), (1, "()"), (1, "-"), (1, "00"), (1, "01"), (1, "01/-"), (1, "01/0201"), (1, "0100"), (1, "0101"), (1, "02"), (1, "ff"), (2, "()"), (2, "02"), (3, "()"), (TOP, "()")):
+    for subspace, path in [(0, "ff")] + [(1, path) for path in "() - 00 01 01/- 01/0201 0100 0101 02 ff".split()] + [(2, "()"), (2, "02"), (3, "()"), (TOP, "()")]:
         yield from play.sheet(laid_store(held[:2] + held[3:], 5))
         yield play(offer(entry(path, 1, 5, LOW, subspace)))
     yield from read_back(play, 6)
@@ -834,6 +846,17 @@ def refused_offers():
         yield from read_back(play, 2)
 
 
+def namespaces():
+    yield "# other namespaces than 7"
+    play = Played(StoreHost())
+    for namespace in (0, 1, 256, 2**63, TOP):
+        yield play("room", store_size((1, 1, 1), 2))
+        yield play("store_fresh 1 1 1 2", namespace)
+        for other in (0, 1, 256, 2**63, TOP):
+            yield play(offer(entry("01", 5, other % 251), other))
+        yield from read_back(play, 2)
+
+
 def small_stores():
     yield "# every small size: the paths that are valid there, those that are not, one place too few; N = 0; MCC = 0; MCL = 0"
     play = Played(StoreHost())
@@ -872,8 +895,10 @@ def broken_stores():
     """What a store cannot hold, each beside what it can."""
     a, b, c, other = entry("01", 5, 10), entry("01/02", 6, 20), entry("02", 1, 40), entry("00", 9, 1, subspace=1)
     yield "# two equal places, descending places, an older entry below a newer one", [
-        [a, b, c, other], [a, a], [a, entry("01", 6, 10)], [a, entry("01", 4, 10)], [b, a], [a, c, b], [other, a], [a, other, c], [entry("01", subspace=256), entry("01", subspace=1)], [entry("01", subspace=1), entry("01", subspace=256)],
-        [entry("01", subspace=1), entry("00", subspace=2**63)], [entry("0100"), entry("01")], [entry("01"), entry("0100")], [entry("01/-"), entry("01")], [entry("7f"), entry("80")], [entry("80"), entry("7f")],
+        [a, b, c, other], [a, a], [a, c, c], [other, other], [a, entry("01", 6, 10)], [a, entry("01", 4, 10)], [b, a], [a, c, b], [other, a], [a, other, c],
+        [entry("01", subspace=256), entry("01", subspace=1)], [entry("01", subspace=1), entry("01", subspace=256)],
+        [entry("01", subspace=1), entry("00", subspace=2**63)], [entry("0100"), entry("01")], [entry("01"), entry("0100")], [entry("01/-"), entry("01")],
+        [entry("7f"), entry("80")], [entry("80"), entry("7f")],
     ]
     chains = [("()", 4), ("00", 5), ("00/01", 6), ("01", 7), ("01/02", 8), ("02", 9)]
     yield "# below the nearest prefix, below one further up, behind entries that are not below it", [
@@ -887,6 +912,11 @@ def broken_stores():
 def damaged_stores():
     play, sheets = Played(StoreHost()), list(some_stores())
     yield from damaged("store", play, sheets, lambda s: laid_store(*s), 64)
+    yield "# a path in a cell at MCL, MCC or MPL, and past one of them alone"
+    for limits, path in FITTING:
+        yield from play.sheet(laid_store([entry()._replace(path=path)], 1, limits))
+        yield play("store_test")
+        yield play("store_entry_path 0 32")
     for comment, kinds in broken_stores():
         yield comment
         for entries in kinds:
@@ -895,7 +925,8 @@ def damaged_stores():
     yield "# held bytes that are not the sum; totals and sums past 2^64 - 1"
     a, b = entry("01", 5, 10), entry("02", 5, TOP - 9)
     for entries, held, let_go in (
-        ([a], 10, 0), ([a], 9, 0), ([a], 11, 0), ([a], 0, 10), ([a], 10, TOP - 10), ([a], 10, TOP - 9), ([a], 10, TOP), ([], 0, TOP), ([], 1, TOP), ([], 1, 0), ([a, b], 0, 0), ([a, b], 0, 1), ([a, b], TOP, 0), ([b], TOP - 9, 9), ([b], TOP - 9, 10),
+        ([a], 10, 0), ([a], 9, 0), ([a], 11, 0), ([a], 0, 10), ([a], 10, TOP - 10), ([a], 10, TOP - 9), ([a], 10, TOP), ([], 0, TOP), ([], 1, TOP),
+        ([], 1, 0), ([a, b], 0, 0), ([a, b], 0, 1), ([a, b], TOP, 0), ([b], TOP - 9, 9), ([b], TOP - 9, 10),
         ([entry("01", 5, TOP - 10), entry("02", 5, 10)], TOP, 0), ([entry("01", 5, TOP), entry("02", 5, TOP), entry("03", 5, 2)], 0, 0), ([entry("01", 5, 2**63), entry("02", 5, 2**63)], 0, 0),
     ):
         yield from play.sheet(laid_store(entries, 3, let_go=let_go, held=held))
@@ -921,8 +952,10 @@ def on_damaged_store(play, sheet):
 def store_forms():
     rest = f"0 p01 1 5 10 {LOW}"
     yield from line_forms("store", "store_fresh 1 1 1 1 7", [
-        "store_numbers 0", "store_entry", "store_entry x", "store_entry 0 0", "store_entry_path 0", "store_entry_path 0 256", "store_entry_path 0 257", f"store_offer {rest}", f"store_offer 7 {rest} 1", f"store_offer 7 {rest}00",
-        f"store_offer 7 {rest[:-2]}", "store_offer 7 0 p01 1 5 10 x", "store_offer 7 0 p01 1 5 10 n1/2/3/4", "store_offer 7 0 p01 1 5 10 n1/2/3", "store_offer 7 0 p1 1 5 10 " + LOW, f"store_offer 7 0 p01 1 {TOP + 1} 10 {LOW}", "store_fresh 1 1 1 1",
+        "store_numbers 0", "store_entry", "store_entry x", "store_entry 0 0", "store_entry_path 0", "store_entry_path 0 256", "store_entry_path 0 257",
+        f"store_offer {rest}", f"store_offer 7 {rest} 1", f"store_offer 7 {rest}00",
+        f"store_offer 7 {rest[:-2]}", "store_offer 7 0 p01 1 5 10 x", "store_offer 7 0 p01 1 5 10 n1/2/3/4", "store_offer 7 0 p01 1 5 10 n1/2/3",
+        "store_offer 7 0 p1 1 5 10 " + LOW, f"store_offer 7 0 p01 1 {TOP + 1} 10 {LOW}", "store_fresh 1 1 1 1",
     ])
 
 
@@ -998,7 +1031,7 @@ def random_stores(r, play):
 def main():
     maps = [fresh_sheets("map", map_size), filled_maps(), inserts(), listings(), damaged_maps(), map_forms(), randoms(MapHost(), random_map, 700, 6)]
     store_cases("vectors_map", MapHost().answer, maps)
-    stores = [stated_stores(), fresh_sheets("store", store_size, "7"), two_offers(), prunings(), full_totals(), refused_offers(), small_stores(), damaged_stores(), store_forms()]
+    stores = [stated_stores(), fresh_sheets("store", store_size, "7"), two_offers(), prunings(), full_totals(), refused_offers(), namespaces(), small_stores(), damaged_stores(), store_forms()]
     store_cases("vectors_store", StoreHost().answer, stores + [randoms(StoreHost(), random_stores, 2800, 7)])
 
 
