@@ -1,8 +1,16 @@
 // Putting a rule into a map whose sheet and area were tested. They are not open to a caller.
 
 use area::Area;
+use map_form::CAPACITY_AT;
+use map_form::COUNT_AT;
+use map_form::END_AT;
+use map_form::END_KIND_AT;
 use map_form::MAP_FRONT;
 use map_form::MAP_HEAD;
+use map_form::START_AT;
+use map_form::SUBSPACE_AT;
+use map_form::SUBSPACE_KIND_AT;
+use map_form::VALUE_AT;
 use sheet::inner as rows;
 use willow::Counted;
 use willow::Limits;
@@ -34,12 +42,12 @@ fn write_head(head: &mut [u8], area: Area, value: u64)
     let subspace = area.subspace;
     let times = area.times;
     let end = times.end;
-    number::write_u64(head, 0, kinds::subspace_kind(subspace));
-    number::write_u64(head, 8, kinds::subspace_value(subspace));
-    number::write_u64(head, 16, times.start);
-    number::write_u64(head, 24, kinds::end_kind(end));
-    number::write_u64(head, 32, kinds::end_value(end));
-    number::write_u64(head, 40, value);
+    number::write_u64(head, SUBSPACE_KIND_AT, kinds::subspace_kind(subspace));
+    number::write_u64(head, SUBSPACE_AT, kinds::subspace_value(subspace));
+    number::write_u64(head, START_AT, times.start);
+    number::write_u64(head, END_KIND_AT, kinds::end_kind(end));
+    number::write_u64(head, END_AT, kinds::end_value(end));
+    number::write_u64(head, VALUE_AT, value);
 }
 
 // A rule into row n, and n counted up. The head and the cell are lent on as writable middle parts of the sheet.
@@ -63,7 +71,7 @@ fn put_rule(
     let c = MAP_FRONT + MAP_HEAD * capacity + cell * n;
     let d = c + cell;
     rows::write_cell(&mut sheet[c..d], base, area.count as usize);
-    number::write_u64(sheet, 32, n as u64 + 1);
+    number::write_u64(sheet, COUNT_AT, n as u64 + 1);
 }
 
 // 5, then 14; else the rule in row n, and n counted up.
@@ -75,8 +83,8 @@ pub fn insert(sheet: &mut [u8], limits: Limits, area: Area, base: &[u8], value: 
     match lent_path::test(limits, base, area.count) {
         Tested::Refused(r) => Counted::Refused(r),
         Tested::Fine => {
-            let capacity = number::read_u64(sheet, 24);
-            let n = number::read_u64(sheet, 32);
+            let capacity = number::read_u64(sheet, CAPACITY_AT);
+            let n = number::read_u64(sheet, COUNT_AT);
             if n == capacity {
                 return Counted::Refused(Refusal::NoRoom);
             }

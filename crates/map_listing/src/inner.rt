@@ -2,6 +2,7 @@
 
 use area::Area;
 use area_intersection::AreaMet;
+use map_form::COUNT_AT;
 use map_rules::inner as rules;
 use willow::Counted;
 use willow::Refusal;
@@ -41,7 +42,7 @@ fn count_meeting(sheet: &[u8], area: Area, base: &[u8]) -> usize
     requires { ⌜ (isMap (now sheet) ≡ true) × Readable (now base) (area .count) ⌝ }
     ensures { λ r. ⌜ r ≡ length (positions (areaIn area (now (base .entry))) (rulesIn (now (sheet .entry)))) ⌝ }
 {
-    let count = number::read_u64(sheet, 32) as usize;
+    let count = number::read_u64(sheet, COUNT_AT) as usize;
     let mut found: usize = 0;
     let mut i: usize = 0;
     while i < count {
@@ -59,7 +60,7 @@ fn write_meeting(sheet: &[u8], area: Area, base: &[u8], out: &mut [u8])
     requires { ⌜ 8 * length (positions (areaIn area (now base)) (rulesIn (now sheet))) ≤ length (now out) ⌝ }
     ensures { λ _. ⌜ now (out .exit) ≡ overwrite (now (out .entry)) 0 (laid (le 8) (positions (areaIn area (now (base .entry))) (rulesIn (now (sheet .entry))))) ⌝ }
 {
-    let n = number::read_u64(sheet, 32) as usize;
+    let n = number::read_u64(sheet, COUNT_AT) as usize;
     let mut at: usize = 0;
     let mut i: usize = 0;
     while i < n {

@@ -1,7 +1,11 @@
 // The bytes of a fresh map. They are not open to a caller.
 
+use map_form::CAPACITY_AT;
 use map_form::MAP_FRONT;
 use map_form::MAP_HEAD;
+use map_form::MCC_AT;
+use map_form::MCL_AT;
+use map_form::MPL_AT;
 use willow::Counted;
 use willow::Limits;
 use willow::Refusal;
@@ -35,9 +39,9 @@ pub fn make(limits: Limits, capacity: u64, out: &mut [u8]) -> Counted
         return Counted::Refused(Refusal::OutTooSmall);
     }
     number::zero(out, 0, length);
-    number::write_u64(out, 0, limits.mcl);
-    number::write_u64(out, 8, limits.mcc);
-    number::write_u64(out, 16, limits.mpl);
-    number::write_u64(out, 24, capacity);
+    number::write_u64(out, MCL_AT, limits.mcl);
+    number::write_u64(out, MCC_AT, limits.mcc);
+    number::write_u64(out, MPL_AT, limits.mpl);
+    number::write_u64(out, CAPACITY_AT, capacity);
     Counted::Count(length as u64)
 }

@@ -4,6 +4,7 @@
 pub mod inner;
 
 use area::Area;
+use map_form::COUNT_AT;
 use willow::Counted;
 use willow::Refusal;
 ghost use mathlib.Core.Path.{_≡_};
@@ -23,7 +24,7 @@ pub fn rule_count(sheet: &[u8]) -> Counted
     ensures { λ r. ⌜ countedOutcome r ≡ countOutcome (now (sheet .entry)) ⌝ }
 {
     if map_test::inner::is_map(sheet) {
-        return Counted::Count(number::read_u64(sheet, 32));
+        return Counted::Count(number::read_u64(sheet, COUNT_AT));
     }
     Counted::Refused(Refusal::BadSheet)
 }
@@ -33,7 +34,7 @@ pub fn rule(sheet: &[u8], i: u64) -> RuleRead
     ensures { λ r. ⌜ ruleOutcome r ≡ ruleRead (now (sheet .entry)) i ⌝ }
 {
     if map_test::inner::is_map(sheet) {
-        if i < number::read_u64(sheet, 32) {
+        if i < number::read_u64(sheet, COUNT_AT) {
             return inner::rule(sheet, i as usize);
         }
         return RuleRead::Nothing;
@@ -46,7 +47,7 @@ pub fn rule_path<'a>(sheet: &'a [u8], i: u64) -> &'a [u8]
     ensures { λ r. ⌜ now r ≡ bytesOr (rulePath (now (sheet .entry)) i) ⌝ }
 {
     if map_test::inner::is_map(sheet) {
-        if i < number::read_u64(sheet, 32) {
+        if i < number::read_u64(sheet, COUNT_AT) {
             return map_rules::inner::rule_path(sheet, i as usize);
         }
     }
@@ -59,7 +60,7 @@ pub fn write_rule_path(sheet: &[u8], i: u64, out: &mut [u8]) -> Counted
     ensures { λ _. ⌜ now (out .exit) ≡ writtenBuffer (rulePath (now (sheet .entry)) i) (now (out .entry)) ⌝ }
 {
     if map_test::inner::is_map(sheet) {
-        if i < number::read_u64(sheet, 32) {
+        if i < number::read_u64(sheet, COUNT_AT) {
             return written::write_part(map_rules::inner::rule_path(sheet, i as usize), out);
         }
         return Counted::Nothing;

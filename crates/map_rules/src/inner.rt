@@ -1,8 +1,16 @@
 // Rule i of a map that was tested, part by part: its path as a part of the sheet, its area beside that path, and its value.
 
 use area::Area;
+use map_form::CAPACITY_AT;
+use map_form::END_AT;
+use map_form::END_KIND_AT;
 use map_form::MAP_FRONT;
 use map_form::MAP_HEAD;
+use map_form::MCC_AT;
+use map_form::MPL_AT;
+use map_form::START_AT;
+use map_form::SUBSPACE_AT;
+use map_form::SUBSPACE_KIND_AT;
 use range::Range;
 use sheet::inner as rows;
 use willow::AreaSubspace;
@@ -43,9 +51,9 @@ pub fn rule_path(sheet: &[u8], i: usize) -> &[u8]
     requires { ⌜ (isMap (now sheet) ≡ true) × (i < countIn (now sheet)) ⌝ }
     ensures { λ r. ⌜ now r ≡ usedPart (cell (mapRow (now (sheet .entry)) i)) ⌝ }
 {
-    let mcc = number::read_u64(sheet, 8) as usize;
-    let mpl = number::read_u64(sheet, 16) as usize;
-    let capacity = number::read_u64(sheet, 24) as usize;
+    let mcc = number::read_u64(sheet, MCC_AT) as usize;
+    let mpl = number::read_u64(sheet, MPL_AT) as usize;
+    let capacity = number::read_u64(sheet, CAPACITY_AT) as usize;
     let cell = 8 * (mcc + 1) + mpl;
     let cells = MAP_FRONT + MAP_HEAD * capacity;
     rows::path_part(rows::record_part(sheet, cells, cell, i))
@@ -57,9 +65,15 @@ pub fn rule_area(sheet: &[u8], i: usize, count: u64) -> Area
     ensures { λ r. ⌜ parts r ≡ areaParts (ruleIn (mapRow (now (sheet .entry)) i) .area) ⌝ }
 {
     let head = rows::record_part(sheet, MAP_FRONT, MAP_HEAD, i);
-    let subspace = subspace_at(number::read_u64(head, 0), number::read_u64(head, 8));
-    let start = number::read_u64(head, 16);
-    let end = end_at(number::read_u64(head, 24), number::read_u64(head, 32));
+    let subspace = subspace_at(
+        number::read_u64(head, SUBSPACE_KIND_AT),
+        number::read_u64(head, SUBSPACE_AT),
+    );
+    let start = number::read_u64(head, START_AT);
+    let end = end_at(
+        number::read_u64(head, END_KIND_AT),
+        number::read_u64(head, END_AT),
+    );
     Area {
         subspace,
         count,

@@ -1,7 +1,16 @@
 // The parts of the test of a map. They are not open to a caller.
 
+use map_form::CAPACITY_AT;
+use map_form::COUNT_AT;
+use map_form::END_AT;
+use map_form::END_KIND_AT;
 use map_form::MAP_FRONT;
 use map_form::MAP_HEAD;
+use map_form::MCC_AT;
+use map_form::MCL_AT;
+use map_form::MPL_AT;
+use map_form::SUBSPACE_AT;
+use map_form::SUBSPACE_KIND_AT;
 use sheet::inner as rows;
 use willow::Limits;
 ghost use mathlib.Core.Path.{_≡_};
@@ -27,8 +36,14 @@ fn head_fits(head: &[u8]) -> bool
     requires { ⌜ length (now head) ≡ mapHeadSize ⌝ }
     ensures { λ r. ⌜ r ≡ headFits (now (head .entry)) ⌝ }
 {
-    if kind_fits(number::read_u64(head, 0), number::read_u64(head, 8)) {
-        return kind_fits(number::read_u64(head, 24), number::read_u64(head, 32));
+    if kind_fits(
+        number::read_u64(head, SUBSPACE_KIND_AT),
+        number::read_u64(head, SUBSPACE_AT),
+    ) {
+        return kind_fits(
+            number::read_u64(head, END_KIND_AT),
+            number::read_u64(head, END_AT),
+        );
     }
     false
 }
@@ -98,12 +113,12 @@ pub fn is_map(s: &[u8]) -> bool
         return false;
     }
     let limits = Limits {
-        mcl: number::read_u64(s, 0),
-        mcc: number::read_u64(s, 8),
-        mpl: number::read_u64(s, 16),
+        mcl: number::read_u64(s, MCL_AT),
+        mcc: number::read_u64(s, MCC_AT),
+        mpl: number::read_u64(s, MPL_AT),
     };
-    let capacity = number::read_u64(s, 24);
-    let n = number::read_u64(s, 32);
+    let capacity = number::read_u64(s, CAPACITY_AT);
+    let n = number::read_u64(s, COUNT_AT);
     if sizes_fit(limits, capacity, n) {
         let cell = 8 * (limits.mcc as usize + 1) + limits.mpl as usize;
         let length = MAP_FRONT + (MAP_HEAD + cell) * capacity as usize;

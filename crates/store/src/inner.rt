@@ -6,6 +6,10 @@ use store_answers::Offered;
 use store_answers::inner as answers;
 use store_closing::inner as closing;
 use store_filing::inner as filing;
+use store_form::CAPACITY_AT;
+use store_form::COUNT_AT;
+use store_form::HELD_AT;
+use store_form::LET_GO_AT;
 use store_scan::inner as scan;
 use willow::Limits;
 use willow::Refusal;
@@ -50,9 +54,9 @@ fn set_counts(sheet: &mut [u8], n: u64, held: u64, let_go: u64)
     requires { ⌜ 64 ≤ length (now sheet) ⌝ }
     ensures { λ _. ⌜ now (sheet .exit) ≡ withCounts n held «let_go» (now (sheet .entry)) ⌝ }
 {
-    number::write_u64(sheet, 32, n);
-    number::write_u64(sheet, 48, held);
-    number::write_u64(sheet, 56, let_go);
+    number::write_u64(sheet, COUNT_AT, n);
+    number::write_u64(sheet, HELD_AT, held);
+    number::write_u64(sheet, LET_GO_AT, let_go);
 }
 
 // An offer to a store whose namespace and path were tested: 13; then one pass over the held entries, by which it is answered; and
@@ -68,10 +72,10 @@ pub fn take_offer(
     ensures { λ r. ⌜ answerOf r ≡ entryAnswer (now (sheet .entry)) (entryAt (sizesIn (now (sheet .entry)) .namespace) head (pathIn (now (path .entry)) count)) ⌝ }
     ensures { λ _. ⌜ now (sheet .exit) ≡ entryLeaves (now (sheet .entry)) (entryAt (sizesIn (now (sheet .entry)) .namespace) head (pathIn (now (path .entry)) count)) ⌝ }
 {
-    let capacity = number::read_u64(sheet, 24) as usize;
-    let n = number::read_u64(sheet, 32) as usize;
-    let held = number::read_u64(sheet, 48);
-    let let_go = number::read_u64(sheet, 56);
+    let capacity = number::read_u64(sheet, CAPACITY_AT) as usize;
+    let n = number::read_u64(sheet, COUNT_AT) as usize;
+    let held = number::read_u64(sheet, HELD_AT);
+    let let_go = number::read_u64(sheet, LET_GO_AT);
     let more = head.payload_length;
     if u64::MAX - held - let_go < more {
         return Offered::Refused(Refusal::TotalFull);

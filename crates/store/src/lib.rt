@@ -6,6 +6,10 @@ pub mod inner;
 
 use entry::Head;
 use store_answers::Offered;
+use store_form::MCC_AT;
+use store_form::MCL_AT;
+use store_form::MPL_AT;
+use store_form::NAMESPACE_AT;
 use willow::Limits;
 use willow::Refusal;
 use willow::Tested;
@@ -21,13 +25,13 @@ pub fn offer(sheet: &mut [u8], namespace: u64, head: Head, path: &[u8], count: u
     ensures { λ _. ⌜ now (sheet .exit) ≡ leavesIn (now (sheet .entry)) (offer (offerOf namespace head (now (path .entry)) count)) ⌝ }
 {
     if store_test::inner::is_store(sheet) {
-        if number::read_u64(sheet, 40) != namespace {
+        if number::read_u64(sheet, NAMESPACE_AT) != namespace {
             return Offered::Refused(Refusal::WrongNamespace);
         }
         let limits = Limits {
-            mcl: number::read_u64(sheet, 0),
-            mcc: number::read_u64(sheet, 8),
-            mpl: number::read_u64(sheet, 16),
+            mcl: number::read_u64(sheet, MCL_AT),
+            mcc: number::read_u64(sheet, MCC_AT),
+            mpl: number::read_u64(sheet, MPL_AT),
         };
         return match lent_path::test(limits, path, count) {
             Tested::Refused(r) => Offered::Refused(r),

@@ -1,6 +1,7 @@
 // The answer to an offer that the totals have room for, and what becomes of one that is not filed. They are not open to a caller.
 
 use crate::Offered;
+use store_form::LET_GO_AT;
 use store_scan::Scan;
 use willow::Refusal;
 ghost use mathlib.Core.Bool.{false};
@@ -35,5 +36,5 @@ pub fn let_go_more(sheet: &mut [u8], let_go: u64, more: u64)
     requires { ⌜ (64 ≤ length (now sheet)) × («let_go» + more ≤ maxWord) ⌝ }
     ensures { λ _. ⌜ now (sheet .exit) ≡ overwrite (now (sheet .entry)) 56 (le 8 («let_go» + more)) ⌝ }
 {
-    number::write_u64(sheet, 56, let_go + more);
+    number::write_u64(sheet, LET_GO_AT, let_go + more);
 }

@@ -3,8 +3,12 @@
 use entry::Head;
 use row_moves::inner as moves;
 use sheet::inner as rows;
+use store_form::DIGEST_AT;
+use store_form::PAYLOAD_LENGTH_AT;
 use store_form::STORE_FRONT;
 use store_form::STORE_HEAD;
+use store_form::SUBSPACE_AT;
+use store_form::TIMESTAMP_AT;
 use willow::Limits;
 ghost use mathlib.Core.List.{[]};
 ghost use mathlib.Core.Path.{_≡_};
@@ -27,10 +31,10 @@ fn write_head(out: &mut [u8], head: Head)
     ensures { λ _. ⌜ now (out .exit) ≡ entryHead (entryAt 0 head []) ⌝ }
 {
     let digest = head.digest;
-    number::write_u64(out, 0, head.subspace);
-    number::write_u64(out, 8, head.timestamp);
-    number::write_u64(out, 16, head.payload_length);
-    number::put(out, 24, &digest);
+    number::write_u64(out, SUBSPACE_AT, head.subspace);
+    number::write_u64(out, TIMESTAMP_AT, head.timestamp);
+    number::write_u64(out, PAYLOAD_LENGTH_AT, head.payload_length);
+    number::put(out, DIGEST_AT, &digest);
 }
 
 // The offer's row put in at a place among the first n; the cell is lent on as a writable middle part of the sheet.

@@ -1,5 +1,10 @@
 // The bytes of a fresh store. They are not open to a caller.
 
+use store_form::CAPACITY_AT;
+use store_form::MCC_AT;
+use store_form::MCL_AT;
+use store_form::MPL_AT;
+use store_form::NAMESPACE_AT;
 use store_form::STORE_FRONT;
 use store_form::STORE_HEAD;
 use willow::Counted;
@@ -36,10 +41,10 @@ pub fn make(limits: Limits, capacity: u64, namespace: u64, out: &mut [u8]) -> Co
         return Counted::Refused(Refusal::OutTooSmall);
     }
     number::zero(out, 0, length);
-    number::write_u64(out, 0, limits.mcl);
-    number::write_u64(out, 8, limits.mcc);
-    number::write_u64(out, 16, limits.mpl);
-    number::write_u64(out, 24, capacity);
-    number::write_u64(out, 40, namespace);
+    number::write_u64(out, MCL_AT, limits.mcl);
+    number::write_u64(out, MCC_AT, limits.mcc);
+    number::write_u64(out, MPL_AT, limits.mpl);
+    number::write_u64(out, CAPACITY_AT, capacity);
+    number::write_u64(out, NAMESPACE_AT, namespace);
     Counted::Count(length as u64)
 }

@@ -3,6 +3,14 @@
 use crate::EntryRead;
 use crate::StoreNumbers;
 use entry::Head;
+use store_form::CAPACITY_AT;
+use store_form::COUNT_AT;
+use store_form::HELD_AT;
+use store_form::LET_GO_AT;
+use store_form::MCC_AT;
+use store_form::MCL_AT;
+use store_form::MPL_AT;
+use store_form::NAMESPACE_AT;
 use store_rows::inner as rows;
 use willow::Counted;
 use willow::Limits;
@@ -23,9 +31,9 @@ fn limits(sheet: &[u8]) -> Limits
     ensures { λ r. ⌜ r ≡ sizesIn (now (sheet .entry)) .limits ⌝ }
 {
     Limits {
-        mcl: number::read_u64(sheet, 0),
-        mcc: number::read_u64(sheet, 8),
-        mpl: number::read_u64(sheet, 16),
+        mcl: number::read_u64(sheet, MCL_AT),
+        mcc: number::read_u64(sheet, MCC_AT),
+        mpl: number::read_u64(sheet, MPL_AT),
     }
 }
 
@@ -36,11 +44,11 @@ pub fn numbers(sheet: &[u8]) -> StoreNumbers
 {
     StoreNumbers {
         limits: limits(sheet),
-        capacity: number::read_u64(sheet, 24),
-        count: number::read_u64(sheet, 32),
-        namespace: number::read_u64(sheet, 40),
-        held: number::read_u64(sheet, 48),
-        let_go: number::read_u64(sheet, 56),
+        capacity: number::read_u64(sheet, CAPACITY_AT),
+        count: number::read_u64(sheet, COUNT_AT),
+        namespace: number::read_u64(sheet, NAMESPACE_AT),
+        held: number::read_u64(sheet, HELD_AT),
+        let_go: number::read_u64(sheet, LET_GO_AT),
     }
 }
 
@@ -49,8 +57,8 @@ pub fn path(sheet: &[u8], i: usize) -> &[u8]
     requires { ⌜ (isStore (now sheet) ≡ true) × (i < countIn (now sheet)) ⌝ }
     ensures { λ r. ⌜ now r ≡ pack (getD (stateIn (now (sheet .entry)) .entries) i noEntry .path) ⌝ }
 {
-    let capacity = number::read_u64(sheet, 24) as usize;
-    let n = number::read_u64(sheet, 32) as usize;
+    let capacity = number::read_u64(sheet, CAPACITY_AT) as usize;
+    let n = number::read_u64(sheet, COUNT_AT) as usize;
     rows::path_at(sheet, limits(sheet), capacity, n, i)
 }
 
@@ -59,8 +67,8 @@ fn head(sheet: &[u8], i: usize) -> Head
     requires { ⌜ (isStore (now sheet) ≡ true) × (i < countIn (now sheet)) ⌝ }
     ensures { λ r. ⌜ r ≡ headOf (getD (stateIn (now (sheet .entry)) .entries) i noEntry) ⌝ }
 {
-    let capacity = number::read_u64(sheet, 24) as usize;
-    let n = number::read_u64(sheet, 32) as usize;
+    let capacity = number::read_u64(sheet, CAPACITY_AT) as usize;
+    let n = number::read_u64(sheet, COUNT_AT) as usize;
     rows::head_at(sheet, limits(sheet), capacity, n, i)
 }
 

@@ -4,6 +4,7 @@
 pub mod inner;
 
 use entry::Head;
+use store_form::COUNT_AT;
 use willow::Counted;
 use willow::Limits;
 use willow::Refusal;
@@ -64,7 +65,7 @@ pub fn entry(sheet: &[u8], i: u64) -> EntryRead
     ensures { λ r. ⌜ r .head ≡ headOr (entryRead (now (sheet .entry)) i) ⌝ }
 {
     if store_test::inner::is_store(sheet) {
-        if i < number::read_u64(sheet, 32) {
+        if i < number::read_u64(sheet, COUNT_AT) {
             return inner::entry(sheet, i as usize);
         }
         return no_entry(Counted::Nothing);
@@ -77,7 +78,7 @@ pub fn entry_path<'a>(sheet: &'a [u8], i: u64) -> &'a [u8]
     ensures { λ r. ⌜ now r ≡ bytesOr (packedOf (entryRead (now (sheet .entry)) i)) ⌝ }
 {
     if store_test::inner::is_store(sheet) {
-        if i < number::read_u64(sheet, 32) {
+        if i < number::read_u64(sheet, COUNT_AT) {
             return inner::path(sheet, i as usize);
         }
     }
@@ -90,7 +91,7 @@ pub fn write_entry_path(sheet: &[u8], i: u64, out: &mut [u8]) -> Counted
     ensures { λ _. ⌜ now (out .exit) ≡ writtenBuffer (packedOf (entryRead (now (sheet .entry)) i)) (now (out .entry)) ⌝ }
 {
     if store_test::inner::is_store(sheet) {
-        if i < number::read_u64(sheet, 32) {
+        if i < number::read_u64(sheet, COUNT_AT) {
             return written::write_part(inner::path(sheet, i as usize), out);
         }
         return Counted::Nothing;

@@ -3,8 +3,12 @@
 use entry::Head;
 use packed::inner;
 use sheet::inner as rows;
+use store_form::DIGEST_AT;
+use store_form::PAYLOAD_LENGTH_AT;
 use store_form::STORE_FRONT;
 use store_form::STORE_HEAD;
+use store_form::SUBSPACE_AT;
+use store_form::TIMESTAMP_AT;
 use willow::Limits;
 use willow::Order;
 ghost use mathlib.Core.Path.{_≡_};
@@ -26,11 +30,11 @@ pub fn read_head(head: &[u8]) -> Head
     ensures { λ r. ⌜ (r .subspace ≡ numberAt (now (head .entry)) 0) × (r .timestamp ≡ numberAt (now (head .entry)) 8) × (r .«payload_length» ≡ numberAt (now (head .entry)) 16) × (r .digest ≡ drop 24 (now (head .entry))) ⌝ }
 {
     let mut digest = [0u8; 32];
-    number::copy(&mut digest, &head[24..56]);
+    number::copy(&mut digest, &head[DIGEST_AT..STORE_HEAD]);
     Head {
-        subspace: number::read_u64(head, 0),
-        timestamp: number::read_u64(head, 8),
-        payload_length: number::read_u64(head, 16),
+        subspace: number::read_u64(head, SUBSPACE_AT),
+        timestamp: number::read_u64(head, TIMESTAMP_AT),
+        payload_length: number::read_u64(head, PAYLOAD_LENGTH_AT),
         digest,
     }
 }

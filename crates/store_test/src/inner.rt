@@ -1,5 +1,12 @@
 // The parts of the test of a store. They are not open to a caller.
 
+use store_form::CAPACITY_AT;
+use store_form::COUNT_AT;
+use store_form::HELD_AT;
+use store_form::LET_GO_AT;
+use store_form::MCC_AT;
+use store_form::MCL_AT;
+use store_form::MPL_AT;
 use store_form::STORE_FRONT;
 use store_form::STORE_HEAD;
 use store_passes::inner as passes;
@@ -58,14 +65,14 @@ pub fn is_store(s: &[u8]) -> bool
         return false;
     }
     let limits = Limits {
-        mcl: number::read_u64(s, 0),
-        mcc: number::read_u64(s, 8),
-        mpl: number::read_u64(s, 16),
+        mcl: number::read_u64(s, MCL_AT),
+        mcc: number::read_u64(s, MCC_AT),
+        mpl: number::read_u64(s, MPL_AT),
     };
-    let capacity = number::read_u64(s, 24);
-    let n = number::read_u64(s, 32);
-    let held = number::read_u64(s, 48);
-    let let_go = number::read_u64(s, 56);
+    let capacity = number::read_u64(s, CAPACITY_AT);
+    let n = number::read_u64(s, COUNT_AT);
+    let held = number::read_u64(s, HELD_AT);
+    let let_go = number::read_u64(s, LET_GO_AT);
     if sizes_fit(limits, capacity, n, held, let_go) {
         let size = 8 * (limits.mcc as usize + 1) + limits.mpl as usize;
         let length = STORE_FRONT + (STORE_HEAD + size) * capacity as usize;
