@@ -9,8 +9,4 @@
 // `unreadable`; an empty line and one that starts with # print nothing. Program `vectors_builder` keeps a buffer and a state from
 // line to line, and so has other lines: they stand in its main.rt.
 
-pub mod answers;
-pub mod arguments;
-pub mod buffers;
-pub mod lines;
-pub mod pieces;
+pub mod inner;

@@ -4,7 +4,7 @@
 
 mod calls;
 
-use cases::lines;
+use cases::inner::lines;
 
 // A case, if there is one.
 fn replay(case: &[u8]) {

@@ -1,13 +1,13 @@
 // An area as a 3d range: the end of its paths is written.
 
-use case_forms::asks;
-use case_forms::number;
-use case_forms::print_end;
-use case_forms::print_first;
-use case_forms::print_next;
-use cases::answers;
-use cases::arguments::given_buffer;
-use cases::arguments::given_room;
+use case_forms::inner::asks;
+use case_forms::inner::number;
+use case_forms::inner::print_end;
+use case_forms::inner::print_first;
+use case_forms::inner::print_next;
+use cases::inner::answers;
+use cases::inner::arguments::given_buffer;
+use cases::inner::arguments::given_room;
 use host_range_3d_conversion::ConvertedAnswer;
 use libc::STDOUT_FILENO;
 

@@ -1,12 +1,12 @@
 // The calls on areas of interest.
 
-use case_forms::asks;
-use case_forms::number;
-use case_forms::print_end;
-use case_forms::print_first;
-use case_forms::print_next;
-use cases::answers;
-use cases::arguments::given_buffer;
+use case_forms::inner::asks;
+use case_forms::inner::number;
+use case_forms::inner::print_end;
+use case_forms::inner::print_first;
+use case_forms::inner::print_next;
+use cases::inner::answers;
+use cases::inner::arguments::given_buffer;
 use host_area_of_interest::InterestAnswer;
 
 fn print_interest(a: InterestAnswer) {

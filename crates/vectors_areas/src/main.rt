@@ -9,8 +9,8 @@ mod conversion;
 mod interests;
 mod ranges;
 
-use cases::answers;
-use cases::lines;
+use cases::inner::answers;
+use cases::inner::lines;
 
 // Each of these says whether the case was one of its own, and then has printed the answer.
 fn replay_case(case: &[u8]) {

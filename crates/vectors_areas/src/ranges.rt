@@ -1,15 +1,15 @@
 // The calls on 3d ranges.
 
-use case_forms::asks;
-use case_forms::fits;
-use case_forms::number;
-use case_forms::print_end;
-use case_forms::print_first;
-use case_forms::print_next;
-use cases::answers;
-use cases::arguments::given_buffer;
-use cases::arguments::given_name;
-use cases::pieces;
+use case_forms::inner::asks;
+use case_forms::inner::fits;
+use case_forms::inner::number;
+use case_forms::inner::print_end;
+use case_forms::inner::print_first;
+use case_forms::inner::print_next;
+use cases::inner::answers;
+use cases::inner::arguments::given_buffer;
+use cases::inner::arguments::given_name;
+use cases::inner::pieces;
 use convention::Answer;
 use host_range_3d_intersection::Range3dAnswer;
 

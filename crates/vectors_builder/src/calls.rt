@@ -1,15 +1,15 @@
 // The lines by name. A new one is named in `replay_case`, and read and carried out in a function of its own.
 
 use builder::Builder;
-use cases::answers;
-use cases::arguments::Limits;
-use cases::arguments::all;
-use cases::arguments::given_buffer;
-use cases::arguments::given_limits;
-use cases::arguments::given_name;
-use cases::arguments::given_number;
-use cases::arguments::given_path;
-use cases::pieces;
+use cases::inner::answers;
+use cases::inner::arguments::Limits;
+use cases::inner::arguments::all;
+use cases::inner::arguments::given_buffer;
+use cases::inner::arguments::given_limits;
+use cases::inner::arguments::given_name;
+use cases::inner::arguments::given_number;
+use cases::inner::arguments::given_path;
+use cases::inner::pieces;
 use host_builder::BuilderAnswer;
 use libc::STDOUT_FILENO;
 ghost use Prim.Native.Nat.{_≤_};

@@ -17,7 +17,7 @@
 mod calls;
 
 use calls::Kept;
-use cases::lines;
+use cases::inner::lines;
 ghost use Prim.Native.Nat.{_≤_};
 ghost use lib.ListN.{length};
 

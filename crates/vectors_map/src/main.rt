@@ -18,8 +18,8 @@
 
 mod calls;
 
-use cases::answers;
-use cases::lines;
+use cases::inner::answers;
+use cases::inner::lines;
 ghost use Prim.Native.Nat.{_≤_};
 ghost use lib.ListN.{length};
 
@@ -62,7 +62,7 @@ fn replay(case: &[u8], space: &mut [u8], len: usize) -> usize
     if case.len() == 0 {
         return len;
     }
-    let kept = case_sheets::keep(case, space, len);
+    let kept = case_sheets::inner::keep(case, space, len);
     if kept.known {
         return kept.len;
     }

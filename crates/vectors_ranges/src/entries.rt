@@ -1,12 +1,12 @@
 // The calls on entries.
 
-use case_forms::asks;
-use case_forms::fits;
-use case_forms::number;
-use cases::answers;
-use cases::arguments::given_buffer;
-use cases::arguments::given_name;
-use cases::pieces;
+use case_forms::inner::asks;
+use case_forms::inner::fits;
+use case_forms::inner::number;
+use cases::inner::answers;
+use cases::inner::arguments::given_buffer;
+use cases::inner::arguments::given_name;
+use cases::inner::pieces;
 use convention::Answer;
 
 // Two ages.

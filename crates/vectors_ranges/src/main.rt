@@ -7,8 +7,8 @@ mod entries;
 mod numbers;
 mod paths;
 
-use cases::answers;
-use cases::lines;
+use cases::inner::answers;
+use cases::inner::lines;
 
 // Each of these says whether the case was one of its own, and then has printed the answer.
 fn replay_paths(case: &[u8]) -> bool {

@@ -1,11 +1,11 @@
 // The calls on ranges of numbers.
 
-use case_forms::asks;
-use case_forms::number;
-use case_forms::print_end;
-use case_forms::print_first;
-use case_forms::print_next;
-use cases::answers;
+use case_forms::inner::asks;
+use case_forms::inner::number;
+use case_forms::inner::print_end;
+use case_forms::inner::print_first;
+use case_forms::inner::print_next;
+use cases::inner::answers;
 use host_range::RangeAnswer;
 
 fn print_range(a: RangeAnswer) {

@@ -1,15 +1,15 @@
 // The calls by name.
 
-use case_forms::asks;
-use case_forms::number;
-use case_forms::print_end;
-use case_forms::print_first;
-use case_forms::print_next;
-use case_sheets::change;
-use case_sheets::print_buffer;
-use cases::answers;
-use cases::arguments::given_buffer;
-use cases::arguments::given_room;
+use case_forms::inner::asks;
+use case_forms::inner::number;
+use case_forms::inner::print_end;
+use case_forms::inner::print_first;
+use case_forms::inner::print_next;
+use case_sheets::inner::change;
+use case_sheets::inner::print_buffer;
+use cases::inner::answers;
+use cases::inner::arguments::given_buffer;
+use cases::inner::arguments::given_room;
 use host_store::OfferAnswer;
 use host_store_reading::EntryAnswer;
 use host_store_reading::StoreAnswer;
