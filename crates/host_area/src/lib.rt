@@ -6,6 +6,11 @@
 
 use area_kinds::AreaRead;
 use area_kinds::AreasRead;
+use area_questions::almost_includes_area;
+use area_questions::compare;
+use area_questions::could_be_pruned_by_triplet;
+use area_questions::includes_area;
+use area_questions::includes_triplet;
 use convention::Answer;
 use convention::asked;
 use convention::compared;
@@ -46,15 +51,7 @@ pub extern "C" fn wotskrale_area_includes_triplet(
     match area_kinds::read_area(limits, kind, id, count, start, end_kind, end) {
         AreaRead::Refused(r) => asked(Asked::Refused(r)),
         AreaRead::Is(a) => {
-            let r = area_questions::includes_triplet(
-                limits,
-                a,
-                base,
-                subspace,
-                path,
-                path_count,
-                timestamp,
-            );
+            let r = includes_triplet(limits, a, base, subspace, path, path_count, timestamp);
             asked(r)
         }
     }
@@ -84,7 +81,7 @@ pub extern "C" fn wotskrale_area_could_be_pruned_by_triplet(
     match area_kinds::read_area(limits, kind, id, count, start, end_kind, end) {
         AreaRead::Refused(r) => asked(Asked::Refused(r)),
         AreaRead::Is(a) => {
-            let r = area_questions::could_be_pruned_by_triplet(
+            let r = could_be_pruned_by_triplet(
                 limits,
                 a,
                 base,
@@ -138,7 +135,7 @@ pub extern "C" fn wotskrale_area_includes_area(
         end2,
     ) {
         AreasRead::Refused(r) => asked(Asked::Refused(r)),
-        AreasRead::Are(a, b) => asked(area_questions::includes_area(limits, a, base, b, base2)),
+        AreasRead::Are(a, b) => asked(includes_area(limits, a, base, b, base2)),
     }
 }
 
@@ -182,13 +179,7 @@ pub extern "C" fn wotskrale_area_almost_includes_area(
         end2,
     ) {
         AreasRead::Refused(r) => asked(Asked::Refused(r)),
-        AreasRead::Are(a, b) => asked(area_questions::almost_includes_area(
-            limits,
-            a,
-            base,
-            b,
-            base2,
-        )),
+        AreasRead::Are(a, b) => asked(almost_includes_area(limits, a, base, b, base2)),
     }
 }
 
@@ -232,6 +223,6 @@ pub extern "C" fn wotskrale_area_compare(
         end2,
     ) {
         AreasRead::Refused(r) => compared(Compared::Refused(r)),
-        AreasRead::Are(a, b) => compared(area_questions::compare(limits, a, base, b, base2)),
+        AreasRead::Are(a, b) => compared(compare(limits, a, base, b, base2)),
     }
 }

@@ -7,6 +7,12 @@
 use convention::Answer;
 use convention::asked;
 use convention::compared;
+use entry_questions::compare;
+use entry_questions::compare_places;
+use entry_questions::equal;
+use entry_questions::is_newer_than;
+use entry_questions::is_pruned_by;
+use entry_questions::prunes;
 use willow::Limits;
 ghost use mathlib.Core.Path.{_≡_};
 ghost use mathlib.Core.List.{List};
@@ -33,7 +39,7 @@ pub extern "C" fn wotskrale_entry_is_newer_than(
 {
     let h = entry::new(0, timestamp, payload_length, digest);
     let h2 = entry::new(0, timestamp2, payload_length2, digest2);
-    asked(entry_questions::is_newer_than(h, h2))
+    asked(is_newer_than(h, h2))
 }
 
 // Whether the first entry would be pruned by the second.
@@ -62,17 +68,7 @@ pub extern "C" fn wotskrale_entry_is_pruned_by(
     let h = entry::new(subspace, timestamp, payload_length, digest);
     let h2 = entry::new(subspace2, timestamp2, payload_length2, digest2);
     let l = Limits { mcl, mcc, mpl };
-    asked(entry_questions::is_pruned_by(
-        l,
-        namespace,
-        h,
-        path,
-        count,
-        namespace2,
-        h2,
-        path2,
-        count2,
-    ))
+    asked(is_pruned_by(l, namespace, h, path, count, namespace2, h2, path2, count2))
 }
 
 // Whether the first entry prunes the second.
@@ -101,7 +97,7 @@ pub extern "C" fn wotskrale_entry_prunes(
     let h = entry::new(subspace, timestamp, payload_length, digest);
     let h2 = entry::new(subspace2, timestamp2, payload_length2, digest2);
     let l = Limits { mcl, mcc, mpl };
-    asked(entry_questions::prunes(l, namespace, h, path, count, namespace2, h2, path2, count2))
+    asked(prunes(l, namespace, h, path, count, namespace2, h2, path2, count2))
 }
 
 // Whether two entries are equal in every field.
@@ -130,7 +126,7 @@ pub extern "C" fn wotskrale_entry_equal(
     let h = entry::new(subspace, timestamp, payload_length, digest);
     let h2 = entry::new(subspace2, timestamp2, payload_length2, digest2);
     let l = Limits { mcl, mcc, mpl };
-    asked(entry_questions::equal(l, namespace, h, path, count, namespace2, h2, path2, count2))
+    asked(equal(l, namespace, h, path, count, namespace2, h2, path2, count2))
 }
 
 // The order of a store sheet: by subspace, then by path, whatever the rest.
@@ -152,7 +148,7 @@ pub extern "C" fn wotskrale_entry_compare_places(
     let h = entry::new(subspace, 0, 0, &digest);
     let h2 = entry::new(subspace2, 0, 0, &digest);
     let l = Limits { mcl, mcc, mpl };
-    compared(entry_questions::compare_places(l, 0, h, path, count, 0, h2, path2, count2))
+    compared(compare_places(l, 0, h, path, count, 0, h2, path2, count2))
 }
 
 // The order of entries: by namespace, subspace, path, timestamp, digest, payload length.
@@ -181,5 +177,5 @@ pub extern "C" fn wotskrale_entry_compare(
     let h = entry::new(subspace, timestamp, payload_length, digest);
     let h2 = entry::new(subspace2, timestamp2, payload_length2, digest2);
     let l = Limits { mcl, mcc, mpl };
-    compared(entry_questions::compare(l, namespace, h, path, count, namespace2, h2, path2, count2))
+    compared(compare(l, namespace, h, path, count, namespace2, h2, path2, count2))
 }

@@ -9,6 +9,10 @@ use convention::asked;
 use convention::compared;
 use range_3d_kinds::Range3dRead;
 use range_3d_kinds::Ranges3dRead;
+use range_3d_questions::compare;
+use range_3d_questions::could_be_pruned_by_triplet;
+use range_3d_questions::includes_range;
+use range_3d_questions::includes_triplet;
 use willow::Asked;
 use willow::Compared;
 use willow::Limits;
@@ -64,16 +68,7 @@ pub extern "C" fn wotskrale_range_3d_includes_triplet(
     ) {
         Range3dRead::Refused(r) => asked(Asked::Refused(r)),
         Range3dRead::Is(a) => {
-            let r = range_3d_questions::includes_triplet(
-                limits,
-                a,
-                s,
-                e,
-                subspace,
-                path,
-                count,
-                timestamp,
-            );
+            let r = includes_triplet(limits, a, s, e, subspace, path, count, timestamp);
             asked(r)
         }
     }
@@ -118,16 +113,7 @@ pub extern "C" fn wotskrale_range_3d_could_be_pruned_by_triplet(
     ) {
         Range3dRead::Refused(r) => asked(Asked::Refused(r)),
         Range3dRead::Is(a) => {
-            let r = range_3d_questions::could_be_pruned_by_triplet(
-                limits,
-                a,
-                s,
-                e,
-                subspace,
-                path,
-                count,
-                timestamp,
-            );
+            let r = could_be_pruned_by_triplet(limits, a, s, e, subspace, path, count, timestamp);
             asked(r)
         }
     }
@@ -187,15 +173,7 @@ pub extern "C" fn wotskrale_range_3d_includes_range(
         time_end2,
     ) {
         Ranges3dRead::Refused(r) => asked(Asked::Refused(r)),
-        Ranges3dRead::Are(a, b) => asked(range_3d_questions::includes_range(
-            limits,
-            a,
-            s,
-            e,
-            b,
-            s2,
-            e2,
-        )),
+        Ranges3dRead::Are(a, b) => asked(includes_range(limits, a, s, e, b, s2, e2)),
     }
 }
 
@@ -253,14 +231,6 @@ pub extern "C" fn wotskrale_range_3d_compare(
         time_end2,
     ) {
         Ranges3dRead::Refused(r) => compared(Compared::Refused(r)),
-        Ranges3dRead::Are(a, b) => compared(range_3d_questions::compare(
-            limits,
-            a,
-            s,
-            e,
-            b,
-            s2,
-            e2,
-        )),
+        Ranges3dRead::Are(a, b) => compared(compare(limits, a, s, e, b, s2, e2)),
     }
 }
