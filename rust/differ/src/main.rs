@@ -1,7 +1,7 @@
 //! Feeds the core and the Rust files the same inputs and prints, for each call, how many were compared, how many differ as
 //! explained, and every other difference with its smallest input. Ends with 1 if there is one.
 //!
-//! Words: `brief` for a short run, `tiny` for one that suits valgrind; a number for the seed of the random inputs; `paths`,
+//! Words: `brief` for a short run, `tiny` for one under valgrind, which then watches the bytes around buffers; a number for the seed of the random inputs; `paths`,
 //! `meaning`, `builder`, `grouping`, `map`, `store` for these parts alone.
 
 mod building;
@@ -187,6 +187,11 @@ fn store(size: Size, numbers: &mut Random, t: &mut Tally) {
         store_runs::random(limits, size.pick(1, 40, 600), numbers, t);
         progress("stores", limits, t);
     }
+    for (mcl, mcc, mpl) in [(0, 9, 0), (1, 6, 6), (1, 3, 2)] {
+        let limits = Limits::new(mcl, mcc, mpl);
+        store_runs::nested(limits, size.pick(1, 40, 1_000), numbers, t);
+        progress("nested stores", limits, t);
+    }
 }
 
 #[cfg(not(feature = "store"))]
@@ -206,6 +211,9 @@ fn main() {
     let all = !parts.into_iter().any(has);
     let seed: u64 = words.iter().find_map(|w| w.parse().ok()).unwrap_or(1);
     println!("seed {seed}, words {words:?}");
+    if size == Size::Tiny {
+        guard::leave_to_valgrind();
+    }
     // Panics of the Rust are caught and counted, and need not be printed.
     std::panic::set_hook(Box::new(|_| {}));
     let mut tally = Tally::default();

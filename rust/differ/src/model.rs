@@ -10,7 +10,10 @@ pub type Parts = Vec<Vec<u8>>;
 
 /// The packed form: the count, the accumulated lengths, the bytes.
 pub fn pack<C: AsRef<[u8]>>(parts: &[C]) -> Vec<u8> {
-    let mut out = (parts.len() as u64).to_le_bytes().to_vec();
+    let bytes: usize = parts.iter().map(|p| p.as_ref().len()).sum();
+    // No byte more is allocated, so that valgrind sees a read behind it.
+    let mut out = Vec::with_capacity(8 * (parts.len() + 1) + bytes);
+    out.extend((parts.len() as u64).to_le_bytes());
     let mut end = 0u64;
     for part in parts {
         end += part.as_ref().len() as u64;

@@ -16,6 +16,9 @@ use crate::theirs::Made;
 /// Bytes behind the sheet that have to stay.
 const BEHIND: [u8; 9] = [0x5a; 9];
 
+/// How seldom an offer to a small store has a great payload.
+const SELDOM: usize = 20;
+
 fn answer(fate: Fate) -> OfferAnswer {
     let (status, answer, pruned) = match fate {
         Fate::Refused(number) => (number, 0, 0),
@@ -173,11 +176,6 @@ impl Run {
     pub fn read_back(&self, t: &mut Tally) {
         read_back(&self.model(), self.sheet.lent(), t);
     }
-
-    /// The model's store and its sheet, to be damaged.
-    pub fn state(&self) -> Store {
-        self.model()
-    }
 }
 
 fn numbers(store: &Store) -> StoreAnswer {
@@ -330,8 +328,8 @@ fn swapped(store: &Store, offer: &Offer, t: &mut Tally) {
     }
 }
 
-/// An offer of few values, so that offers meet.
-fn offer(limits: Limits, namespace: u64, random: &mut Random) -> Offer {
+/// An offer of few values, so that offers meet. One in `seldom` has a payload that brings the totals near their bound.
+fn offer(limits: Limits, namespace: u64, seldom: usize, random: &mut Random) -> Offer {
     let mut parts = random.path(limits);
     for byte in parts.iter_mut().flatten() {
         *byte = [0, 1, 0xff][random.below(3)];
@@ -355,40 +353,64 @@ fn offer(limits: Limits, namespace: u64, random: &mut Random) -> Offer {
         subspace: [0, 1, u64::MAX][[0, 0, 0, 1, 2][random.below(5)]],
         path: (packed, count),
         timestamp: [0, 1, 2, u64::MAX][[0, 1, 1, 2, 2, 3][random.below(6)]],
-        payload_length: match random.below(16) {
-            0 => u64::MAX,
-            1 => 1 << 63,
-            2 => u64::MAX - 3,
+        payload_length: match random.below(seldom) {
+            0 => [u64::MAX, 1 << 63, u64::MAX - 3][random.below(3)],
             _ => random.below(4) as u64,
         },
         digest,
     }
 }
 
-/// Random lists of offers; every fortieth store is damaged too.
+/// Random lists of offers to small stores; every fortieth store is damaged too.
 pub fn random(limits: Limits, lists: usize, random: &mut Random, t: &mut Tally) {
     for turn in 0..lists {
-        let (capacity, namespace) = (random.below(6) as u64, [0, 7, u64::MAX][random.below(3)]);
-        let Some(mut run) = Run::fresh(limits, capacity, namespace, t) else {
+        let (capacity, offers) = (random.below(6) as u64, random.below(14));
+        let Some(run) = list(limits, (capacity, offers, SELDOM), random, t) else {
             continue;
         };
-        for _ in 0..random.below(14) {
-            let next = match run.list.is_empty() || random.below(5) > 0 {
-                true => offer(limits, namespace, random),
-                false => run.list[random.below(run.list.len())].clone(),
-            };
-            run.offer(next, t);
-        }
-        run.read_back(t);
-        let (store, next) = (run.state(), offer(limits, namespace, random));
+        let (store, next) = (run.model(), offer(limits, run.namespace, SELDOM, random));
         let sheet = store.layout().unwrap_or_default();
         if turn % 40 == 0 && sheet.len() < 3000 {
             changed(&sheet, sheet.len() / 300, random, |bytes| {
                 damaged(bytes, &next, t)
             });
-            swapped(&store, &next, t);
+        }
+        swapped(&store, &next, t);
+    }
+}
+
+/// Longer lists of offers to stores that hold many entries, among them paths below paths below paths.
+pub fn nested(limits: Limits, lists: usize, random: &mut Random, t: &mut Tally) {
+    for _ in 0..lists {
+        let (capacity, offers) = (10 + random.below(40) as u64, 30 + random.below(50));
+        if let Some(run) = list(limits, (capacity, offers, 100 * SELDOM), random, t) {
+            swapped(
+                &run.model(),
+                &offer(limits, run.namespace, SELDOM, random),
+                t,
+            );
         }
     }
+}
+
+/// A list of so many offers to a fresh store, some of them made before.
+fn list(
+    limits: Limits,
+    (capacity, offers, seldom): (u64, usize, usize),
+    random: &mut Random,
+    t: &mut Tally,
+) -> Option<Run> {
+    let namespace = [0, 7, u64::MAX][random.below(3)];
+    let mut run = Run::fresh(limits, capacity, namespace, t)?;
+    for _ in 0..offers {
+        let next = match run.list.is_empty() || random.below(5) > 0 {
+            true => offer(limits, namespace, seldom, random),
+            false => run.list[random.below(run.list.len())].clone(),
+        };
+        run.offer(next, t);
+    }
+    run.read_back(t);
+    Some(run)
 }
 
 /// All lists of three offers from a few, at each small capacity.
