@@ -14,6 +14,10 @@ fn main() {
     println!("cargo:rerun-if-changed=build.rs");
     let repository = repository();
     let names = names(&repository.join("crates.txt"));
+    let exported = names.iter().any(|name| name.starts_with("host_store"));
+    if env::var_os("CARGO_FEATURE_STORE").is_some() && !exported {
+        stop("no crate exports the store's calls: build with --no-default-features");
+    }
     let folder = match env::var_os("WOTSKRALE_ARCHIVES") {
         Some(given) => named(PathBuf::from(given), &names),
         None => of_repository(&repository, &names),

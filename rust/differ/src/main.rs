@@ -149,9 +149,14 @@ fn map(size: Size, numbers: &mut Random, t: &mut Tally) {
         map_runs::random(set, size.pick(2, 700, 12_000), numbers, t);
         progress("maps", set.limits(), t);
     }
-    for set in sets![Groups: 64 16 200, 1024 1024 4096, 1024 4 4096, 4 1024 4096] {
+    let large = sets![Groups: 1024 1024 4096, 64 16 200, 1024 4 4096, 4 1024 4096];
+    for set in large {
         map_runs::random(set, size.pick(1, 30, 600), numbers, t);
         progress("maps", set.limits(), t);
+    }
+    if size == Size::Whole {
+        map_runs::largest(large[0], large[1], numbers, t);
+        progress("largest maps", Limits::BOUNDS, t);
     }
 }
 
@@ -191,6 +196,10 @@ fn store(size: Size, numbers: &mut Random, t: &mut Tally) {
         let limits = Limits::new(mcl, mcc, mpl);
         store_runs::nested(limits, size.pick(1, 40, 1_000), numbers, t);
         progress("nested stores", limits, t);
+    }
+    if size == Size::Whole {
+        store_runs::largest(numbers, t);
+        progress("largest stores", Limits::BOUNDS, t);
     }
 }
 

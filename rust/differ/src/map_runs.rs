@@ -1,7 +1,7 @@
 //! Area maps: ours against the plain model in every byte, and against the Rust's values as multisets.
 
 use wotskrale::plain::{self, Answer, RuleAnswer};
-use wotskrale::{AreaMap, AreaSubspace, Limits, PathRef, Range, RangeEnd, Refusal};
+use wotskrale::{AreaMap, AreaSubspace, Limits, PathRef, Range, RangeEnd, Refusal, MAX_CAPACITY};
 
 use crate::grouping::number;
 use crate::groups::{Area, Lent};
@@ -102,7 +102,7 @@ fn listed(sheet: &[u8], area: plain::Area<'_>, rules: usize) -> Made {
 }
 
 /// A listing, and every rule read back.
-pub fn ask(set: Option<&dyn Groups>, map: &Map, sheet: &Guarded, area: &Area, t: &mut Tally) {
+pub fn ask(set: &dyn Groups, map: &Map, sheet: &Guarded, area: &Area, t: &mut Tally) {
     let asked = as_rule(area, 0);
     let positions = map.intersecting(&asked);
     let lent = sheet.lent();
@@ -115,9 +115,7 @@ pub fn ask(set: Option<&dyn Groups>, map: &Map, sheet: &Guarded, area: &Area, t:
     t.same("typed forms", typed.as_ref() == Ok(&positions), || {
         input(map, format!("listing of {}: {typed:?}", area.show()))
     });
-    if let Some(set) = set {
-        against_the_rust(set, map, &positions, area, t);
-    }
+    against_the_rust(set, map, &positions, area, t);
 }
 
 fn against_the_rust(set: &dyn Groups, map: &Map, positions: &[u64], area: &Area, t: &mut Tally) {
@@ -286,35 +284,55 @@ pub fn damaged(bytes: &[u8], area: &Area, t: &mut Tally) {
     }
 }
 
-/// Maps filled rule by rule with random areas, asked and read after each.
+/// A map of so many rules at the most, filled with one more and asked after each.
+fn filled(
+    set: &dyn Groups,
+    (capacity, rules): (u64, usize),
+    random: &mut Random,
+    t: &mut Tally,
+) -> (Map, Guarded) {
+    let limits = set.limits();
+    let mut sheet = fresh(limits, capacity, t);
+    let mut map = Map {
+        limits,
+        capacity,
+        rules: Vec::new(),
+    };
+    let base = random.lent(limits, None);
+    for _ in 0..rules {
+        let path = random.lent(limits, Some(&base.parts));
+        let area = random.area(&path);
+        let value = random.number();
+        insert(&mut map, &mut sheet, &area, value, t);
+        let path = random.lent(limits, Some(&base.parts));
+        let asked = random.area(&path);
+        ask(set, &map, &sheet, &asked, t);
+    }
+    read_back(&map, sheet.lent(), t);
+    (map, sheet)
+}
+
+/// Maps of few rules; every sixty-fourth is damaged too.
 pub fn random(set: &dyn Groups, turns: usize, random: &mut Random, t: &mut Tally) {
     let limits = set.limits();
     for turn in 0..turns {
-        let capacity = random.below(6) as u64;
-        let mut sheet = fresh(limits, capacity, t);
-        let mut map = Map {
-            limits,
-            capacity,
-            rules: Vec::new(),
-        };
-        let base = random.lent(limits, None);
-        for _ in 0..=capacity {
-            let path = random.lent(limits, Some(&base.parts));
+        let capacity = random.below(6);
+        let (map, _) = filled(set, (capacity as u64, capacity + 1), random, t);
+        let sheet = map.layout();
+        if turn % 64 == 0 && sheet.len() < 3000 {
+            let path = random.lent(limits, map.rules.first().map(|r| &r.path));
             let area = random.area(&path);
-            let value = random.number();
-            insert(&mut map, &mut sheet, &area, value, t);
-            let path = random.lent(limits, Some(&base.parts));
-            let asked = random.area(&path);
-            ask(Some(set), &map, &sheet, &asked, t);
-        }
-        read_back(&map, sheet.lent(), t);
-        if turn % 64 == 0 && map.layout().len() < 3000 {
-            let (area, sheet) = (random.area(&base), map.layout());
             changed(&sheet, sheet.len() / 300, random, |bytes| {
                 damaged(bytes, &area, t)
             });
         }
     }
+}
+
+/// The largest sheet that there is, and a map of many rules.
+pub fn largest(bounds: &dyn Groups, small: &dyn Groups, random: &mut Random, t: &mut Tally) {
+    filled(bounds, (MAX_CAPACITY, 2), random, t);
+    filled(small, (MAX_CAPACITY, 200), random, t);
 }
 
 /// Capacities over the bound, and limits.

@@ -2,7 +2,7 @@
 //! whole history out anew each time.
 
 use wotskrale::plain::{self, EntryAnswer, OfferAnswer, StoreAnswer};
-use wotskrale::{Entry, Limits, Offered, PathRef, Refusal};
+use wotskrale::{Entry, Limits, Offered, PathRef, Refusal, MAX_CAPACITY};
 
 use crate::guard::Guarded;
 use crate::inputs::Random;
@@ -391,6 +391,13 @@ pub fn nested(limits: Limits, lists: usize, random: &mut Random, t: &mut Tally) 
             );
         }
     }
+}
+
+/// The largest sheet that there is, and a long list to a store with much room.
+pub fn largest(random: &mut Random, t: &mut Tally) {
+    list(Limits::BOUNDS, (MAX_CAPACITY, 3, SELDOM), random, t);
+    let limits = Limits::new(2, 6, 8);
+    list(limits, (MAX_CAPACITY, 250, 100 * SELDOM), random, t);
 }
 
 /// A list of so many offers to a fresh store, some of them made before.
