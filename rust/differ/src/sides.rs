@@ -156,9 +156,16 @@ impl<'s> View<'s> {
         let theirs = rust.path_length_of_prefix(n);
         let input = || self.input(format!("n {n}: ours {now:?}, Rust {theirs:?}"));
         let call = "path_length_of_prefix";
+        // Past the count the Rust reads the n-th number of its buffer, whatever stands there, and panics behind its end.
+        let stray = self.packed.chunks_exact(8).nth(n as usize);
+        let stray = stray.map(|b| b.iter().rev().fold(0, |n, b| n << 8 | u64::from(*b)));
         match (now, theirs) {
-            (Ok(None), None) if n > self.count => t.explained(call, Class::LengthPanics, input),
-            (Ok(None), Some(_)) if n > self.count => t.explained(call, Class::LengthNumber, input),
+            (Ok(None), None) if n > self.count && stray.is_none() => {
+                t.explained(call, Class::LengthPanics, input)
+            }
+            (Ok(None), Some(_)) if n > self.count && theirs == stray => {
+                t.explained(call, Class::LengthNumber, input)
+            }
             _ => t.same(call, now == Ok(theirs) && n <= self.count, input),
         }
 
@@ -441,13 +448,22 @@ fn from_iter(set: &dyn Set, parts: &[Vec<u8>], stated: u64, by_slices: &Made, t:
         return both(t, call, made, by_slices.clone(), direct, text);
     }
     let input = || text(format!("ours {}, Rust {direct:?}", shown(&made)));
-    match (&made, &direct) {
-        (Made::Refused(6), Some(Made::Panic)) => t.explained(call, Class::TotalPanics, input),
-        (Made::Refused(6), Some(Made::Refused(7 | 8))) => {
+    // The Rust looks at the stated total, then at the count, and then finds out when it builds.
+    let known = match (stated > limits.mpl, parts.len() as u64 > limits.mcc) {
+        (true, _) => Made::Refused(7),
+        (false, true) => Made::Refused(8),
+        (false, false) => Made::Panic,
+    };
+    let refused = made == Made::Refused(6);
+    match direct {
+        // A component over MCL cannot be handed to the Rust.
+        None => t.same(call, refused, input),
+        Some(Made::Panic) if refused && known == Made::Panic => {
+            t.explained(call, Class::TotalPanics, input)
+        }
+        Some(ref theirs) if refused && *theirs == known => {
             t.explained(call, Class::TotalRefused, input)
         }
-        // A component over MCL cannot be handed to the Rust.
-        (Made::Refused(6), None) => t.same(call, true, input),
         _ => t.same(call, false, input),
     }
 }
