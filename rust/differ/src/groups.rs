@@ -4,7 +4,7 @@ use std::rc::Rc;
 
 use wotskrale::{AreaSubspace, Limits, PathRef, Range, RangeEnd};
 
-use crate::model::{pack, show, Parts};
+use crate::model::{pack, read, show, Parts};
 
 /// A path as it is lent to ours: a buffer, which may hold more components than are counted.
 #[derive(Clone)]
@@ -31,6 +31,12 @@ impl Lent {
     /// As it is lent.
     pub fn lent(&self) -> PathRef<'_> {
         PathRef::new(&self.packed, self.parts.len() as u64)
+    }
+
+    /// All components in the buffer.
+    pub fn whole(&self) -> Parts {
+        let count = PathRef::whole(&self.packed).count();
+        read(Limits::BOUNDS, &self.packed, count).unwrap_or_default()
     }
 
     /// How much there is of it, to find small inputs by.

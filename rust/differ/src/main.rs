@@ -2,7 +2,8 @@
 //! explained, and every other difference with its smallest input. Ends with 1 if there is one.
 //!
 //! Words: `brief` for a short run, `tiny` for one under valgrind, which then watches the bytes around buffers; a number for the seed of the random inputs; `paths`,
-//! `meaning`, `builder`, `grouping`, `map`, `store` for these parts alone.
+//! `meaning`, `builder`, `grouping`, `map`, `store` for these parts alone. `sample FOLDER` compares nothing and writes a fixed
+//! sample of the Rust's answers.
 
 mod building;
 mod damage;
@@ -15,6 +16,7 @@ mod kinds;
 mod map_runs;
 mod model;
 mod path_runs;
+mod sample;
 mod sheets;
 mod sides;
 #[cfg(feature = "store")]
@@ -25,6 +27,8 @@ mod tally;
 mod their_groups;
 mod theirs;
 mod whole;
+
+use std::path::Path;
 
 use inputs::Random;
 use tally::Tally;
@@ -208,8 +212,21 @@ fn store(_: Size, _: &mut Random, _: &mut Tally) {
     println!("The store's calls are not compiled in (feature `store`).");
 }
 
+fn write_sample(folder: &str) {
+    let sets = sets![Groups: 2 2 3, 2 1 2, 1 2 2, 3 5 9, 8 2 15, 1 8 8, 16 4 64, 0 2 0];
+    if let Err(error) = sample::write(Path::new(folder), &sets, &mut Random::new(1)) {
+        eprintln!("{folder}: {error}");
+        std::process::exit(1);
+    }
+}
+
 fn main() {
     let words: Vec<String> = std::env::args().skip(1).collect();
+    if let [word, folder] = &words[..] {
+        if word == "sample" {
+            return write_sample(folder);
+        }
+    }
     let has = |word: &str| words.iter().any(|w| w == word);
     let size = match (has("tiny"), has("brief")) {
         (true, _) => Size::Tiny,
