@@ -132,7 +132,7 @@ fn builder(size: Size, numbers: &mut Random, t: &mut Tally) {
 
 fn grouping(size: Size, numbers: &mut Random, t: &mut Tally) {
     group_runs::numbers(t);
-    for set in sets![Groups: 0 0 0, 1 1 1, 0 2 0, 1 2 1, 2 1 2, 1 2 2, 2 2 2] {
+    for set in sets![Groups: 0 0 0, 0 1 0, 1 1 1, 0 2 0, 1 2 1, 2 1 2, 1 2 2, 2 2 2] {
         group_runs::exhaustive(set, size.pick(10, 120, 700), numbers, t);
         progress("groupings", set.limits(), t);
     }

@@ -7,7 +7,7 @@ use crate::grouping::number;
 use crate::groups::{Area, Lent};
 use crate::guard::Guarded;
 use crate::inputs::Random;
-use crate::model::{pack, show};
+use crate::model::{self, pack, show};
 use crate::sheets::{changed, Map, Rule};
 use crate::sides::ours;
 use crate::tally::{Input, Tally};
@@ -213,75 +213,87 @@ pub fn read_back(map: &Map, sheet: &[u8], t: &mut Tally) {
     }
 }
 
-/// Bytes that may be no map: every call against the model of the layout. Nothing is written where it is none.
+/// What was said of bytes that may be no map.
+fn of_bytes(bytes: &[u8], call: &str, said: String) -> Input {
+    let text = format!("{call} of {bytes:02x?}: {said}");
+    Input::new(Limits::new(0, 0, 0), bytes.len(), text)
+}
+
+/// Bytes that may be no map: every call against the model of the layout.
 pub fn damaged(bytes: &[u8], area: &Area, t: &mut Tally) {
-    let mut sheet = Guarded::of(bytes);
-    let said = |call: &str, said: String| {
-        let text = format!("{call} of {bytes:02x?}: {said}");
-        Input::new(Limits::new(0, 0, 0), bytes.len(), text)
-    };
     let model = Map::read(bytes);
-    let now = plain::map_test(sheet.lent());
+    let now = plain::map_test(Guarded::of(bytes).lent());
     let expected = if model.is_some() { 0 } else { 2 };
     t.same("damaged: map test", now == expected, || {
-        said("test", format!("{now}"))
+        of_bytes(bytes, "test", format!("{now}"))
     });
-    let Some(mut map) = model else {
-        let bad = plain::Area {
-            kind: 7,
-            id: 0,
-            path: PathRef::new(&[1], 9),
-            times: Range::new(0, RangeEnd::Open).into(),
-        };
-        for area in [area.ours().into(), bad] {
-            let now = plain::map_insert(sheet.lent_mut(), area, 1);
-            let same = now == refused(2) && sheet.holds(bytes);
-            t.same("damaged: map calls", same, || {
-                said("insert", format!("{now:?}"))
-            });
-            let now = listed(sheet.lent(), area, 4);
-            let same = now == Made::Refused(2);
-            t.same("damaged: map calls", same, || {
-                said("listing", format!("{now:?}"))
-            });
-        }
-        let now = plain::map_count(sheet.lent());
-        t.same("damaged: map calls", now == refused(2), || {
-            said("count", format!("{now:?}"))
-        });
-        let now = plain::map_rule(sheet.lent(), 0).status;
-        t.same("damaged: map calls", now == 2, || {
-            said("rule", format!("{now:?}"))
-        });
-        let lent = AreaMap::lent(sheet.lent());
-        let now = ours(60, |out| lent.write_rule_path(0, out));
-        let same = now == Made::Refused(2);
-        return t.same("damaged: map calls", same, || {
-            said("path", format!("{now:?}"))
-        });
-    };
-    read_back(&map, sheet.lent(), t);
-    // An area that is a path under the sheet's own limits.
-    let within = crate::model::valid(map.limits, &area.path.parts);
-    if within && area.path.lent().test(map.limits).is_ok() {
-        let length = map.layout().len();
-        let behind = bytes[length..].to_vec();
-        let now = listed(sheet.lent(), area.ours().into(), map.rules.len());
-        let model = positions_bytes(&map.intersecting(&as_rule(area, 0)));
-        t.same("damaged: still a map", now == Made::Bytes(model), || {
-            said("listing", format!("{now:?}"))
-        });
-        let room = (map.rules.len() as u64) < map.capacity;
-        let now = plain::map_insert(sheet.lent_mut(), area.ours().into(), 3);
-        if room {
-            map.rules.push(as_rule(area, 3));
-        }
-        let content = [map.layout(), behind].concat();
-        let same = (now.status == 0) == room && sheet.holds(&content);
-        t.same("damaged: still a map", same, || {
-            said("insert", format!("{now:?}"))
-        });
+    match model {
+        Some(map) => still_a_map(map, bytes, area, t),
+        None => no_map(bytes, area, t),
     }
+}
+
+/// Every call refuses with 2, whatever else is wrong, and nothing is written.
+fn no_map(bytes: &[u8], area: &Area, t: &mut Tally) {
+    let mut sheet = Guarded::of(bytes);
+    let mut refuses = |call: &str, same: bool, said: String| {
+        t.same("damaged: map calls", same, || of_bytes(bytes, call, said));
+    };
+    let bad = plain::Area {
+        kind: 7,
+        id: 0,
+        path: PathRef::new(&[1], 9),
+        times: Range::new(0, RangeEnd::Open).into(),
+    };
+    for area in [area.ours().into(), bad] {
+        let now = plain::map_insert(sheet.lent_mut(), area, 1);
+        let same = now == refused(2) && sheet.holds(bytes);
+        refuses("insert", same, format!("{now:?}"));
+        let now = listed(sheet.lent(), area, 4);
+        refuses("listing", now == Made::Refused(2), format!("{now:?}"));
+    }
+    let now = plain::map_count(sheet.lent());
+    refuses("count", now == refused(2), format!("{now:?}"));
+    let now = plain::map_rule(sheet.lent(), 0);
+    let none = RuleAnswer {
+        status: 2,
+        ..rule_answer(None)
+    };
+    refuses("rule", now == none, format!("{now:?}"));
+    let lent = AreaMap::lent(sheet.lent());
+    let now = ours(60, |out| lent.write_rule_path(0, out));
+    refuses("path", now == Made::Refused(2), format!("{now:?}"));
+}
+
+/// A map that was changed and is one all the same: read, listed and inserted into. The area's path may be none under its limits.
+fn still_a_map(mut map: Map, bytes: &[u8], area: &Area, t: &mut Tally) {
+    let mut sheet = Guarded::of(bytes);
+    read_back(&map, sheet.lent(), t);
+    let lent = area.path.lent();
+    let readable = model::read(map.limits, lent.bytes(), lent.count()).is_some();
+    let now = listed(sheet.lent(), area.ours().into(), map.rules.len());
+    let expected = match readable {
+        true => Made::Bytes(positions_bytes(&map.intersecting(&as_rule(area, 0)))),
+        false => Made::Refused(5),
+    };
+    t.same("damaged: still a map", now == expected, || {
+        of_bytes(bytes, "listing", format!("{now:?}"))
+    });
+    let behind = bytes[map.layout().len()..].to_vec();
+    let position = map.rules.len() as u64;
+    let expected = match (readable, position < map.capacity) {
+        (false, _) => refused(5),
+        (true, false) => refused(14),
+        (true, true) => number(position),
+    };
+    if expected.status == 0 {
+        map.rules.push(as_rule(area, 3));
+    }
+    let now = plain::map_insert(sheet.lent_mut(), area.ours().into(), 3);
+    let same = now == expected && sheet.holds(&[map.layout(), behind].concat());
+    t.same("damaged: still a map", same, || {
+        of_bytes(bytes, "insert", format!("{now:?}"))
+    });
 }
 
 /// A map of so many rules at the most, filled with one more and asked after each.

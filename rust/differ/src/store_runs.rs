@@ -247,44 +247,58 @@ fn read_back(store: &Store, sheet: &[u8], t: &mut Tally) {
     });
 }
 
-/// Bytes that may be no store: every call against the model of the layout; nothing is written where it is none.
+/// What was said of bytes that may be no store.
+fn of_bytes(bytes: &[u8], call: &str, said: String) -> Input {
+    let text = format!("{call} of {bytes:02x?}: {said}");
+    Input::new(Limits::new(0, 0, 0), bytes.len(), text)
+}
+
+/// Bytes that may be no store: every call against the model of the layout.
 pub fn damaged(bytes: &[u8], offer: &Offer, t: &mut Tally) {
-    let mut sheet = Guarded::of(bytes);
-    let said = |call: &str, said: String| {
-        let text = format!("{call} of {bytes:02x?}: {said}");
-        Input::new(Limits::new(0, 0, 0), bytes.len(), text)
-    };
     let model = Store::read(bytes);
-    let now = plain::store_test(sheet.lent());
+    let now = plain::store_test(Guarded::of(bytes).lent());
     let expected = if model.is_some() { 0 } else { 2 };
     t.same("damaged: store test", now == expected, || {
-        said("test", format!("{now}"))
+        of_bytes(bytes, "test", format!("{now}"))
     });
-    let now = offer_to(sheet.lent_mut(), offer);
-    let Some(store) = model else {
-        let same = now == answer(Fate::Refused(2)) && sheet.holds(bytes);
-        t.same("damaged: store calls", same, || {
-            said("offer", format!("{now:?}"))
-        });
-        let now = (
-            plain::store_numbers(sheet.lent()),
-            plain::store_entry(sheet.lent(), 0),
-        );
-        let refused = EntryAnswer {
-            status: 2,
-            ..entry_answer(None)
-        };
-        let same = now.0.status == 2 && now.0.let_go == 0 && now.1 == refused;
-        t.same("damaged: store calls", same, || {
-            said("numbers", format!("{now:?}"))
-        });
-        let lent = wotskrale::Store::lent(sheet.lent());
-        let now = ours(60, |out| lent.write_entry_path(0, out));
-        let same = now == Made::Refused(2);
-        return t.same("damaged: store calls", same, || {
-            said("path", format!("{now:?}"))
-        });
+    match model {
+        Some(store) => still_a_store(&store, bytes, offer, t),
+        None => no_store(bytes, offer, t),
+    }
+}
+
+/// Every call refuses with 2, whatever else is wrong, and nothing is written.
+fn no_store(bytes: &[u8], offer: &Offer, t: &mut Tally) {
+    let mut sheet = Guarded::of(bytes);
+    let mut refuses = |call: &str, same: bool, said: String| {
+        t.same("damaged: store calls", same, || of_bytes(bytes, call, said));
     };
+    let now = offer_to(sheet.lent_mut(), offer);
+    let same = now == answer(Fate::Refused(2)) && sheet.holds(bytes);
+    refuses("offer", same, format!("{now:?}"));
+    let now = plain::store_numbers(sheet.lent());
+    let empty = Store::of_history(Limits::new(0, 0, 0), 0, 0, &[]);
+    let none = StoreAnswer {
+        status: 2,
+        ..numbers(&empty)
+    };
+    refuses("numbers", now == none, format!("{now:?}"));
+    let now = plain::store_entry(sheet.lent(), 0);
+    let none = EntryAnswer {
+        status: 2,
+        ..entry_answer(None)
+    };
+    refuses("entry", now == none, format!("{now:?}"));
+    let lent = wotskrale::Store::lent(sheet.lent());
+    let now = ours(60, |out| lent.write_entry_path(0, out));
+    refuses("path", now == Made::Refused(2), format!("{now:?}"));
+}
+
+/// A store that was changed and is one all the same: read and offered to.
+fn still_a_store(store: &Store, bytes: &[u8], offer: &Offer, t: &mut Tally) {
+    read_back(store, bytes, t);
+    let mut sheet = Guarded::of(bytes);
+    let now = offer_to(sheet.lent_mut(), offer);
     let fate = store.fate(offer);
     let after = match (fate, store.offered(offer)) {
         (Fate::Refused(_), _) | (_, None) => store.clone(),
@@ -294,12 +308,9 @@ pub fn damaged(bytes: &[u8], offer: &Offer, t: &mut Tally) {
     let content = [&after.layout().unwrap_or_default()[..], &bytes[length..]].concat();
     let same = now == answer(fate) && sheet.holds(&content);
     t.same("damaged: still a store", same, || {
-        said(
-            "offer",
-            format!("{}: ours {now:?}, model {fate:?}", shown(offer)),
-        )
+        let said = format!("{}: ours {now:?}, model {fate:?}", shown(offer));
+        of_bytes(bytes, "offer", said)
     });
-    read_back(&store, bytes, t);
 }
 
 /// Sheets that are laid out well and hold the wrong entries: two of them exchanged, one twice, one that another prunes.
