@@ -68,6 +68,46 @@ pub fn fresh(limits: Limits, capacity: u64, t: &mut Tally) -> Guarded {
     Guarded::of(&[&sheet[..], &[0x5a; BEHIND]].concat())
 }
 
+/// An area as it is passed, with a number beside each kind 0, which is not to be read.
+fn with_noise(area: &Area, noise: u64) -> plain::Area<'_> {
+    let mut passed = plain::Area::from(area.ours());
+    if passed.kind == 0 {
+        passed.id = noise;
+    }
+    if passed.times.end.kind == 0 {
+        passed.times.end.end = noise;
+    }
+    passed
+}
+
+/// Kinds that are neither and paths that are none: 3, then 5, and nothing is written.
+fn wrong(map: &Map, sheet: &mut Guarded, area: &Area, random: &mut Random, t: &mut Tally) {
+    let mut asked = with_noise(area, random.number());
+    for kind in [&mut asked.kind, &mut asked.times.end.kind] {
+        *kind = [*kind, *kind, 2, u64::MAX][random.below(4)];
+    }
+    let bad = random.below(2) == 0;
+    if bad {
+        asked.path = PathRef::new(asked.path.bytes(), u64::MAX);
+    }
+    let kinds = asked.kind > 1 || asked.times.end.kind > 1;
+    let number = match (kinds, bad) {
+        (true, _) => 3,
+        (false, true) => 5,
+        (false, false) => return,
+    };
+    let old = sheet.lent().to_vec();
+    let now = plain::map_insert(sheet.lent_mut(), asked, 1);
+    let same = now == refused(number) && sheet.holds(&old);
+    t.same("map: insert", same, || {
+        input(map, format!("insert {asked:?}: ours {now:?}"))
+    });
+    let now = listed(sheet.lent(), asked, map.rules.len());
+    t.same("map: intersecting", now == Made::Refused(number), || {
+        input(map, format!("listing of {asked:?}: ours {now:?}"))
+    });
+}
+
 /// A rule inserted, and every byte compared.
 pub fn insert(map: &mut Map, sheet: &mut Guarded, area: &Area, value: u64, t: &mut Tally) {
     let position = map.rules.len() as u64;
@@ -75,7 +115,7 @@ pub fn insert(map: &mut Map, sheet: &mut Guarded, area: &Area, value: u64, t: &m
         true => number(position),
         false => refused(14),
     };
-    let now = plain::map_insert(sheet.lent_mut(), area.ours().into(), value);
+    let now = plain::map_insert(sheet.lent_mut(), with_noise(area, value), value);
     if model.status == 0 {
         map.rules.push(as_rule(area, value));
     }
@@ -106,7 +146,7 @@ pub fn ask(set: &dyn Groups, map: &Map, sheet: &Guarded, area: &Area, t: &mut Ta
     let asked = as_rule(area, 0);
     let positions = map.intersecting(&asked);
     let lent = sheet.lent();
-    let now = listed(lent, area.ours().into(), map.rules.len());
+    let now = listed(lent, with_noise(area, 9), map.rules.len());
     let same = now == Made::Bytes(positions_bytes(&positions));
     t.same("map: intersecting", same, || {
         input(map, format!("listing of {}: ours {now:?}", area.show()))
@@ -319,6 +359,7 @@ fn filled(
         let path = random.lent(limits, Some(&base.parts));
         let asked = random.area(&path);
         ask(set, &map, &sheet, &asked, t);
+        wrong(&map, &mut sheet, &asked, random, t);
     }
     read_back(&map, sheet.lent(), t);
     (map, sheet)
