@@ -1,29 +1,28 @@
 //! Finds the archives of the core, or builds them.
 //!
-//! Looked for in the folder that `WOTSKRALE_ARCHIVES` names, else in `target/staticlib` of the repository. In the second place
-//! a missing archive is built with `rt staticlib`, which proves what it builds.
+//! There is one for each crate in the repository's `crates.txt` whose name begins with `host_`. They are looked for in the
+//! folder that `WOTSKRALE_ARCHIVES` names, else in `target/staticlib` of the repository. In the second place a missing archive
+//! is built with `rt staticlib`, which proves what it builds.
 
 use std::env;
+use std::fs;
 use std::path::{Path, PathBuf};
 use std::process::Command;
-
-/// One archive for each crate that exports calls.
-const ARCHIVES: [&str; 5] = [
-    "host_reading",
-    "host_relation",
-    "host_writing",
-    "host_construction",
-    "host_least",
-];
 
 fn main() {
     println!("cargo:rerun-if-env-changed=WOTSKRALE_ARCHIVES");
     println!("cargo:rerun-if-changed=build.rs");
+    let repository = repository();
+    let names = names(&repository.join("crates.txt"));
+    let exported = names.iter().any(|name| name.starts_with("host_store"));
+    if env::var_os("CARGO_FEATURE_STORE").is_some() && !exported {
+        stop("no crate exports the store's calls: build with --no-default-features");
+    }
     let folder = match env::var_os("WOTSKRALE_ARCHIVES") {
-        Some(given) => named(PathBuf::from(given)),
-        None => of_repository(),
+        Some(given) => named(PathBuf::from(given), &names),
+        None => of_repository(&repository, &names),
     };
-    for name in ARCHIVES {
+    for name in &names {
         println!(
             "cargo:rerun-if-changed={}",
             archive(&folder, name).display()
@@ -32,6 +31,27 @@ fn main() {
     }
     println!("cargo:rustc-link-search=native={}", folder.display());
     println!("cargo:rustc-env=WOTSKRALE_FOUND={}", folder.display());
+    println!("cargo:rustc-env=WOTSKRALE_NAMES={}", names.join(" "));
+}
+
+fn repository() -> PathBuf {
+    let here = PathBuf::from(env::var_os("CARGO_MANIFEST_DIR").unwrap_or_default());
+    match here.join("../..").canonicalize() {
+        Ok(folder) => folder,
+        Err(error) => stop(&format!("the repository's folder: {error}")),
+    }
+}
+
+/// The crates that export calls: each line is a name, a colon and what the crate uses.
+fn names(list: &Path) -> Vec<String> {
+    println!("cargo:rerun-if-changed={}", list.display());
+    let text = match fs::read_to_string(list) {
+        Ok(text) => text,
+        Err(error) => stop(&format!("{}: {error}", list.display())),
+    };
+    let names = text.lines().filter_map(|line| line.split(':').next());
+    let names = names.filter(|name| name.starts_with("host_"));
+    names.map(str::to_string).collect()
 }
 
 fn archive(folder: &Path, name: &str) -> PathBuf {
@@ -39,8 +59,8 @@ fn archive(folder: &Path, name: &str) -> PathBuf {
 }
 
 /// A folder that was named has to hold every archive: nothing is built there.
-fn named(folder: PathBuf) -> PathBuf {
-    for name in ARCHIVES {
+fn named(folder: PathBuf, names: &[String]) -> PathBuf {
+    for name in names {
         if !archive(&folder, name).is_file() {
             stop(&format!(
                 "WOTSKRALE_ARCHIVES is {}, and lib{name}.a is not there",
@@ -54,16 +74,11 @@ fn named(folder: PathBuf) -> PathBuf {
     }
 }
 
-fn of_repository() -> PathBuf {
-    let here = PathBuf::from(env::var_os("CARGO_MANIFEST_DIR").unwrap_or_default());
-    let repository = match here.join("../..").canonicalize() {
-        Ok(folder) => folder,
-        Err(error) => stop(&format!("the repository's folder: {error}")),
-    };
+fn of_repository(repository: &Path, names: &[String]) -> PathBuf {
     let folder = repository.join("target/staticlib");
-    for name in ARCHIVES {
+    for name in names {
         if !archive(&folder, name).is_file() {
-            build(&repository, name);
+            build(repository, name);
         }
     }
     folder

@@ -1,163 +1,264 @@
 //! Feeds the core and the Rust files the same inputs and prints, for each call, how many were compared, how many differ as
 //! explained, and every other difference with its smallest input. Ends with 1 if there is one.
 //!
-//! Words: `brief` for a short run, a number for the seed of the random inputs.
+//! Words: `brief` for a short run, `tiny` for one under valgrind, which then watches the bytes around buffers; a number for the seed of the random inputs; `paths`,
+//! `meaning`, `builder`, `grouping`, `map`, `store` for these parts alone. `sample FOLDER` compares nothing and writes a fixed
+//! sample of the Rust's answers.
 
+mod building;
 mod damage;
+mod group_runs;
+mod grouping;
+mod groups;
+mod guard;
 mod inputs;
+mod kinds;
+mod map_runs;
 mod model;
+mod path_runs;
+mod sample;
+mod sheets;
 mod sides;
+#[cfg(feature = "store")]
+mod store_model;
+#[cfg(feature = "store")]
+mod store_runs;
 mod tally;
+mod their_groups;
 mod theirs;
+mod whole;
 
-use inputs::{lists, strings, Random};
-use model::{pack, show};
-use sides::View;
-use tally::{Input, Tally};
+use std::path::Path;
+
+use inputs::Random;
+use tally::Tally;
+use their_groups::Groups;
 use theirs::{At, Set};
+use wotskrale::Limits;
 
-/// All paths of the alphabet, and all components and lists that pass a limit by one. Pairs are of cut paths too, where that
-/// stays small.
-fn exhaustive(set: &dyn Set, brief: bool, t: &mut Tally) {
-    let limits = set.limits();
-    let (mcl, mcc, mpl) = (
-        limits.mcl as usize,
-        limits.mcc as usize,
-        limits.mpl as usize,
-    );
-    let paths = lists(mcl, mcc, mpl);
-    let whole: Vec<View> = paths.iter().filter_map(|p| View::new(set, p)).collect();
-    let cut = |v| {
-        (0..=View::count(v))
-            .filter_map(|n| v.cut(n))
-            .collect::<Vec<_>>()
-    };
-    let views: Vec<View> = whole.iter().flat_map(cut).collect();
-    sides::bare(set, t);
-    for view in &views {
-        view.one(t);
-    }
-    let pairs = if views.len() <= 300 { &views } else { &whole };
-    for a in pairs {
-        for b in pairs.iter().step_by(if brief { 7 } else { 1 }) {
-            a.two(b, t);
-        }
-    }
-    let components = strings(mcl + 1);
-    let few = lists(mcl.min(1) + 1, 2, 2);
-    for view in views.iter().step_by(if brief { 11 } else { 1 }) {
-        for component in &components {
-            view.extend(component, t);
-        }
-        for more in &few {
-            view.extend_by(more, t);
-        }
-    }
-    let around = lists(mcl + 1, mcc + 1, mpl + 1);
-    for parts in around.iter().step_by(if brief { 11 } else { 1 }) {
-        sides::make(set, parts, t);
-    }
-    for path in paths.iter().step_by(if brief { 37 } else { 5 }) {
-        damage::around(limits, &pack(path), 1, t);
-    }
+/// How much is run.
+#[derive(Clone, Copy, PartialEq, Eq)]
+enum Size {
+    Tiny,
+    Brief,
+    Whole,
 }
 
-/// Random paths near the limits, each with one that is nearly the same.
-fn random(set: &dyn Set, turns: usize, random: &mut Random, t: &mut Tally) {
-    let limits = set.limits();
-    sides::bare(set, t);
-    for turn in 0..turns {
-        let path = random.path(limits);
-        let other = match random.below(8) {
-            0 => random.path(limits),
-            _ => random.beside(limits, &path),
-        };
-        let (Some(a), Some(b)) = (View::new(set, &path), View::new(set, &other)) else {
-            // Both are within the limits, so the Rust makes both.
-            t.same("random inputs", false, || {
-                Input::new(limits, 0, format!("{} or {}", show(&path), show(&other)))
-            });
-            continue;
-        };
-        let (a, b) = (perhaps_cut(a, random), perhaps_cut(b, random));
-        a.one(t);
-        a.two(&b, t);
-        b.two(&a, t);
-        a.two(&a, t);
-        let around = random.around(limits);
-        sides::make(set, &around, t);
-        a.extend(around.last().map_or(&[], |p| p), t);
-        a.extend_by(
-            &around[around.len() - random.below(around.len().min(3) + 1)..],
-            t,
-        );
-        let packed = pack(&path);
-        if turn % 16 == 0 {
-            damage::around(limits, &packed, packed.len() / 24, t);
+impl Size {
+    /// One of three numbers.
+    fn pick(self, tiny: usize, brief: usize, whole: usize) -> usize {
+        match self {
+            Size::Tiny => tiny,
+            Size::Brief => brief,
+            Size::Whole => whole,
         }
-        let noise: Vec<u8> = (0..random.below(40))
-            .map(|_| random.next() as u8 & 3)
-            .collect();
-        damage::lent(limits, &noise, random.below(3) as u64, t);
-        damage::lengths(limits, &noise, &packed[..random.below(packed.len())], t);
-        let wraps = [u64::MAX, 1, noise.len() as u64]
-            .into_iter()
-            .flat_map(u64::to_le_bytes);
-        damage::lengths(limits, &wraps.collect::<Vec<u8>>(), &noise, t);
-    }
-}
-
-fn perhaps_cut<'s>(view: View<'s>, random: &mut Random) -> View<'s> {
-    match random.below(3) {
-        0 => view
-            .cut(random.below(view.count() as usize + 1) as u64)
-            .unwrap_or(view),
-        _ => view,
     }
 }
 
 /// The Rust at each of these limit sets.
 macro_rules! sets {
-    ($($mcl:literal $mcc:literal $mpl:literal),+ $(,)?) => {
-        [$(&At::<$mcl, $mcc, $mpl> as &dyn Set),+]
+    ($as:ident: $($mcl:literal $mcc:literal $mpl:literal),+ $(,)?) => {
+        [$(&At::<$mcl, $mcc, $mpl> as &dyn $as),+]
     };
 }
 
-fn progress(set: &dyn Set, t: &Tally) {
-    let limits = set.limits();
+fn progress(part: &str, limits: Limits, t: &Tally) {
     let (mcl, mcc, mpl) = (limits.mcl, limits.mcc, limits.mpl);
-    eprintln!("{mcl} {mcc} {mpl} done, {} cases so far", t.cases());
+    eprintln!(
+        "{part} at {mcl} {mcc} {mpl} done, {} cases so far",
+        t.cases()
+    );
 }
 
-fn main() {
-    let words: Vec<String> = std::env::args().skip(1).collect();
-    let brief = words.iter().any(|w| w == "brief");
-    let seed = words.iter().find_map(|w| w.parse().ok()).unwrap_or(1);
-    println!("seed {seed}{}", if brief { ", brief" } else { "" });
-    // Panics of the Rust are caught and counted, and need not be printed.
-    std::panic::set_hook(Box::new(|_| {}));
-    let mut tally = Tally::default();
-    let t = &mut tally;
-    for set in sets![
+fn paths(size: Size, numbers: &mut Random, t: &mut Tally) {
+    let tiny = sets![Set:
         0 0 0, 0 0 1, 0 0 2, 0 0 3, 0 1 0, 0 1 1, 0 1 2, 0 1 3, 0 2 0, 0 2 1, 0 2 2, 0 2 3, 0 3 0, 0 3 1, 0 3 2, 0 3 3,
         1 0 0, 1 0 1, 1 0 2, 1 0 3, 1 1 0, 1 1 1, 1 1 2, 1 1 3, 1 2 0, 1 2 1, 1 2 2, 1 2 3, 1 3 0, 1 3 1, 1 3 2, 1 3 3,
         2 0 0, 2 0 1, 2 0 2, 2 0 3, 2 1 0, 2 1 1, 2 1 2, 2 1 3, 2 2 0, 2 2 1, 2 2 2, 2 2 3, 2 3 0, 2 3 1, 2 3 2, 2 3 3,
         3 0 0, 3 0 1, 3 0 2, 3 0 3, 3 1 0, 3 1 1, 3 1 2, 3 1 3, 3 2 0, 3 2 1, 3 2 2, 3 2 3, 3 3 0, 3 3 1, 3 3 2, 3 3 3
-    ] {
-        exhaustive(set, brief, t);
-        progress(set, t);
+    ];
+    for set in tiny.into_iter().take(size.pick(16, 64, 64)) {
+        path_runs::exhaustive(set, size == Size::Whole, t);
+        progress("paths", set.limits(), t);
     }
-    let turns = if brief { 2_000 } else { 50_000 };
-    let numbers = &mut Random::new(seed);
-    for set in sets![2 2 3, 16 4 64, 3 5 9, 8 2 15, 1 8 8, 64 16 200] {
-        random(set, turns, numbers, t);
-        progress(set, t);
+    let small = sets![Set: 2 2 3, 16 4 64, 3 5 9, 8 2 15, 1 8 8, 64 16 200, 5 3 5, 2 1 2];
+    for set in small {
+        path_runs::random(set, size.pick(5, 2_000, 50_000), numbers, t);
+        progress("paths", set.limits(), t);
     }
-    for set in sets![1024 1024 4096, 1024 4 4096, 4 1024 4096] {
-        random(set, turns / 10, numbers, t);
-        progress(set, t);
+    let large = sets![Set: 1024 1024 4096, 1024 4 4096, 4 1024 4096, 1024 1 1024];
+    for set in large {
+        path_runs::random(set, size.pick(1, 200, 5_000), numbers, t);
+        progress("paths", set.limits(), t);
     }
     damage::limits_over(t);
+}
+
+/// Ours against all paths that there are.
+fn meaning(size: Size, t: &mut Tally) {
+    let all = [
+        (0, 0, 0),
+        (0, 3, 2),
+        (1, 1, 1),
+        (1, 1, 0),
+        (2, 1, 1),
+        (1, 2, 1),
+        (1, 3, 1),
+        (2, 2, 1),
+        (2, 1, 2),
+        (1, 2, 2),
+        (2, 1, 3),
+    ];
+    for (mcl, mcc, mpl) in all.into_iter().take(size.pick(4, 11, 11)) {
+        let limits = Limits::new(mcl, mcc, mpl);
+        whole::paths(limits, t);
+        if mpl <= 1 || mcl == 0 {
+            whole::triplets(limits, t);
+        }
+        progress("meaning", limits, t);
+    }
+}
+
+fn builder(size: Size, numbers: &mut Random, t: &mut Tally) {
+    for set in sets![Set: 2 2 3, 0 2 2, 1 1 0, 1 0 1, 1 1 1, 3 5 9, 16 4 64, 64 16 200] {
+        building::random(set, size.pick(5, 4_000, 60_000), numbers, t);
+        progress("builder", set.limits(), t);
+    }
+    for set in sets![Set: 1024 1024 4096, 1024 4 4096, 4 1024 4096] {
+        building::random(set, size.pick(1, 100, 2_000), numbers, t);
+        progress("builder", set.limits(), t);
+    }
+}
+
+fn grouping(size: Size, numbers: &mut Random, t: &mut Tally) {
+    group_runs::numbers(t);
+    for set in sets![Groups: 0 0 0, 0 1 0, 1 1 1, 0 2 0, 1 2 1, 2 1 2, 1 2 2, 2 2 2] {
+        group_runs::exhaustive(set, size.pick(10, 120, 700), numbers, t);
+        progress("groupings", set.limits(), t);
+    }
+    for set in sets![Groups: 2 2 3, 16 4 64, 3 5 9, 8 2 15, 1 8 8, 64 16 200, 2 1 2, 2 2 2, 1 2 2] {
+        group_runs::random(set, size.pick(5, 3_000, 60_000), numbers, t);
+        progress("groupings", set.limits(), t);
+    }
+    for set in sets![Groups: 1024 1024 4096, 1024 4 4096, 4 1024 4096] {
+        group_runs::random(set, size.pick(1, 100, 2_000), numbers, t);
+        progress("groupings", set.limits(), t);
+    }
+    kinds::random(size.pick(5, 5_000, 200_000), numbers, t);
+}
+
+fn map(size: Size, numbers: &mut Random, t: &mut Tally) {
+    map_runs::over(t);
+    for set in sets![Groups: 2 2 3, 0 0 0, 1 1 1, 0 2 0, 1 2 1, 2 1 2, 3 5 9, 16 4 64] {
+        map_runs::random(set, size.pick(2, 700, 12_000), numbers, t);
+        progress("maps", set.limits(), t);
+    }
+    let large = sets![Groups: 1024 1024 4096, 64 16 200, 1024 4 4096, 4 1024 4096];
+    for set in large {
+        map_runs::random(set, size.pick(1, 30, 600), numbers, t);
+        progress("maps", set.limits(), t);
+    }
+    if size == Size::Whole {
+        map_runs::largest(large[0], large[1], numbers, t);
+        progress("largest maps", Limits::BOUNDS, t);
+    }
+}
+
+#[cfg(feature = "store")]
+fn store(size: Size, numbers: &mut Random, t: &mut Tally) {
+    store_runs::over(t);
+    let few = |mcl, mcc, mpl| inputs::lists(mcl, mcc, mpl);
+    let most = size.pick(3, 5, 9);
+    for (limits, mut paths) in [
+        (Limits::new(0, 2, 0), few(0, 2, 0)),
+        (Limits::new(1, 2, 1), few(1, 2, 1)),
+        (Limits::new(1, 1, 1), few(1, 1, 1)),
+    ] {
+        paths.truncate(most);
+        store_runs::exhaustive(limits, &paths, t);
+        progress("stores", limits, t);
+    }
+    for (mcl, mcc, mpl) in [
+        (1, 2, 2),
+        (2, 2, 3),
+        (0, 0, 0),
+        (0, 2, 0),
+        (1, 1, 1),
+        (2, 1, 2),
+        (3, 5, 9),
+    ] {
+        let limits = Limits::new(mcl, mcc, mpl);
+        store_runs::random(limits, size.pick(2, 600, 12_000), numbers, t);
+        progress("stores", limits, t);
+    }
+    for (mcl, mcc, mpl) in [(16, 4, 64), (64, 16, 200), (1024, 1024, 4096)] {
+        let limits = Limits::new(mcl, mcc, mpl);
+        store_runs::random(limits, size.pick(1, 40, 600), numbers, t);
+        progress("stores", limits, t);
+    }
+    for (mcl, mcc, mpl) in [(0, 9, 0), (1, 6, 6), (1, 3, 2)] {
+        let limits = Limits::new(mcl, mcc, mpl);
+        store_runs::nested(limits, size.pick(1, 40, 1_000), numbers, t);
+        progress("nested stores", limits, t);
+    }
+    if size == Size::Whole {
+        store_runs::largest(numbers, t);
+        progress("largest stores", Limits::BOUNDS, t);
+    }
+}
+
+#[cfg(not(feature = "store"))]
+fn store(_: Size, _: &mut Random, _: &mut Tally) {
+    println!("The store's calls are not compiled in (feature `store`).");
+}
+
+fn write_sample(folder: &str) {
+    let sets = sets![Groups: 2 2 3, 2 1 2, 1 2 2, 3 5 9, 8 2 15, 1 8 8, 16 4 64, 0 2 0];
+    if let Err(error) = sample::write(Path::new(folder), &sets, &mut Random::new(1)) {
+        eprintln!("{folder}: {error}");
+        std::process::exit(1);
+    }
+}
+
+fn main() {
+    let words: Vec<String> = std::env::args().skip(1).collect();
+    if let [word, folder] = &words[..] {
+        if word == "sample" {
+            return write_sample(folder);
+        }
+    }
+    let has = |word: &str| words.iter().any(|w| w == word);
+    let size = match (has("tiny"), has("brief")) {
+        (true, _) => Size::Tiny,
+        (_, true) => Size::Brief,
+        _ => Size::Whole,
+    };
+    let parts = ["paths", "meaning", "builder", "grouping", "map", "store"];
+    let all = !parts.into_iter().any(has);
+    let seed: u64 = words.iter().find_map(|w| w.parse().ok()).unwrap_or(1);
+    println!("seed {seed}, words {words:?}");
+    if size == Size::Tiny {
+        guard::leave_to_valgrind();
+    }
+    // Panics of the Rust are caught and counted, and need not be printed.
+    std::panic::set_hook(Box::new(|_| {}));
+    let mut tally = Tally::default();
+    let t = &mut tally;
+    for (part, name) in (0..).zip(parts) {
+        if !all && !has(name) {
+            continue;
+        }
+        // Each part has its own numbers, so that it does the same alone.
+        let numbers = &mut Random::new(seed.wrapping_mul(16).wrapping_add(part));
+        match name {
+            "paths" => paths(size, numbers, t),
+            "meaning" => meaning(size, t),
+            "builder" => builder(size, numbers, t),
+            "grouping" => grouping(size, numbers, t),
+            "map" => map(size, numbers, t),
+            _ => store(size, numbers, t),
+        }
+    }
     let fine = tally.print();
     std::process::exit(if fine { 0 } else { 1 });
 }

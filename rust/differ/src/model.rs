@@ -1,6 +1,8 @@
 //! Plain models, written from the documents and from neither side: the packed form and its test, the rule for the raised
 //! component, and the way in which paths are shown.
 
+use std::cmp::Ordering;
+
 use wotskrale::Limits;
 
 /// A path as its components.
@@ -8,7 +10,10 @@ pub type Parts = Vec<Vec<u8>>;
 
 /// The packed form: the count, the accumulated lengths, the bytes.
 pub fn pack<C: AsRef<[u8]>>(parts: &[C]) -> Vec<u8> {
-    let mut out = (parts.len() as u64).to_le_bytes().to_vec();
+    let bytes: usize = parts.iter().map(|p| p.as_ref().len()).sum();
+    // No byte more is allocated, so that valgrind sees a read behind it.
+    let mut out = Vec::with_capacity(8 * (parts.len() + 1) + bytes);
+    out.extend((parts.len() as u64).to_le_bytes());
     let mut end = 0u64;
     for part in parts {
         end += part.as_ref().len() as u64;
@@ -110,5 +115,29 @@ pub fn show<C: AsRef<[u8]>>(parts: &[C]) -> String {
     match parts {
         [] => "()".to_string(),
         _ => parts.iter().map(one).collect::<Vec<String>>().join("/"),
+    }
+}
+
+/// The order of two ends, open (none) being greatest.
+pub fn end_order<T: Ord>(a: Option<&T>, b: Option<&T>) -> Ordering {
+    match (a, b) {
+        (None, None) => Ordering::Equal,
+        (None, Some(_)) => Ordering::Greater,
+        (Some(_), None) => Ordering::Less,
+        (Some(a), Some(b)) => a.cmp(b),
+    }
+}
+
+/// The order of two ranges: by start, then by end.
+pub fn range_order<T: Ord>(a: (&T, Option<&T>), b: (&T, Option<&T>)) -> Ordering {
+    a.0.cmp(b.0).then_with(|| end_order(a.1, b.1))
+}
+
+/// What the Rust answers for it (docs/DIFFERENCES.md, `Range`'s order): equal for equal starts, and the order of the ends where
+/// the first start is greater.
+pub fn range_order_of_the_rust<T: Ord>(a: (&T, Option<&T>), b: (&T, Option<&T>)) -> Ordering {
+    match a.0.cmp(b.0) {
+        Ordering::Greater => end_order(a.1, b.1),
+        order => order,
     }
 }

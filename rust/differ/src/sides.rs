@@ -4,12 +4,10 @@ use std::rc::Rc;
 
 use wotskrale::{construction, least, reading, relation, writing, Limits, PathRef, Refusal};
 
+use crate::guard::Guarded;
 use crate::model::{pack, raised_before_ff, read, show, split, total, Parts};
 use crate::tally::{Class, Input, Tally};
 use crate::theirs::{Made, Set, TheirPath};
-
-/// What buffers are filled with before a call, to see what it leaves alone.
-const CANARY: u8 = 0xa5;
 
 /// The same path on both sides: for the Rust, and packed with a count for ours.
 pub struct View<'s> {
@@ -20,34 +18,33 @@ pub struct View<'s> {
 }
 
 /// Calls ours with a long buffer, one that just holds the answer, one that is a byte too short, and an empty one. What is
-/// given is spoilt where a buffer's bytes outside the answer have changed or the four do not fit together.
+/// given is spoilt where bytes outside the answer or around a buffer have changed or the four do not fit together.
 pub fn ours(longest: usize, call: impl Fn(&mut [u8]) -> Result<Option<usize>, Refusal>) -> Made {
-    let mut long = vec![CANARY; longest + 9];
-    let first = call(&mut long);
-    let whole = |buffer: &[u8]| buffer.iter().all(|b| *b == CANARY);
+    let mut long = Guarded::new(longest + 9);
+    let first = call(long.lent_mut());
     let length = match first {
         Ok(Some(length)) if length <= longest => length,
-        Ok(Some(_)) => return Made::Spoilt("longer than any packed path"),
-        _ if !whole(&long) => return Made::Spoilt("written without an answer"),
+        Ok(Some(_)) => return Made::Spoilt("longer than it can be"),
+        _ if !long.untouched_from(0) => return Made::Spoilt("written without an answer"),
         other if call(&mut []) != other => return Made::Spoilt("another with an empty buffer"),
         Ok(None) => return Made::Nothing,
         Err(refusal) => return Made::Refused(refusal.number()),
     };
-    if !whole(&long[length..]) {
+    if !long.untouched_from(length) {
         return Made::Spoilt("written behind the answer");
     }
-    long.truncate(length);
-    let mut exact = vec![CANARY; length];
-    if call(&mut exact) != first || exact != long {
+    let answer = long.lent()[..length].to_vec();
+    let mut exact = Guarded::new(length);
+    if call(exact.lent_mut()) != first || !exact.holds(&answer) {
         return Made::Spoilt("another with a buffer of its length");
     }
     if length > 0 {
-        let mut short = vec![CANARY; length - 1];
-        if call(&mut short) != Err(Refusal::OutTooSmall) || !whole(&short) {
+        let mut short = Guarded::new(length - 1);
+        if call(short.lent_mut()) != Err(Refusal::OutTooSmall) || !short.untouched_from(0) {
             return Made::Spoilt("no 15, or written, with a buffer too short");
         }
     }
-    Made::Bytes(long)
+    Made::Bytes(answer)
 }
 
 /// What the form that allocates its answer gives: the same.
@@ -58,7 +55,8 @@ fn owned(path: Result<Option<wotskrale::Path>, Refusal>) -> Made {
     }
 }
 
-fn shown(made: &Made) -> String {
+/// What was made, in words.
+pub fn shown(made: &Made) -> String {
     let parts = match made {
         Made::Bytes(bytes) => read(Limits::BOUNDS, bytes, PathRef::whole(bytes).count()),
         _ => None,
@@ -158,9 +156,16 @@ impl<'s> View<'s> {
         let theirs = rust.path_length_of_prefix(n);
         let input = || self.input(format!("n {n}: ours {now:?}, Rust {theirs:?}"));
         let call = "path_length_of_prefix";
+        // Past the count the Rust reads the n-th number of its buffer, whatever stands there, and panics behind its end.
+        let stray = self.packed.chunks_exact(8).nth(n as usize);
+        let stray = stray.map(|b| b.iter().rev().fold(0, |n, b| n << 8 | u64::from(*b)));
         match (now, theirs) {
-            (Ok(None), None) if n > self.count => t.explained(call, Class::LengthPanics, input),
-            (Ok(None), Some(_)) if n > self.count => t.explained(call, Class::LengthNumber, input),
+            (Ok(None), None) if n > self.count && stray.is_none() => {
+                t.explained(call, Class::LengthPanics, input)
+            }
+            (Ok(None), Some(_)) if n > self.count && theirs == stray => {
+                t.explained(call, Class::LengthNumber, input)
+            }
             _ => t.same(call, now == Ok(theirs) && n <= self.count, input),
         }
 
@@ -443,13 +448,22 @@ fn from_iter(set: &dyn Set, parts: &[Vec<u8>], stated: u64, by_slices: &Made, t:
         return both(t, call, made, by_slices.clone(), direct, text);
     }
     let input = || text(format!("ours {}, Rust {direct:?}", shown(&made)));
-    match (&made, &direct) {
-        (Made::Refused(6), Some(Made::Panic)) => t.explained(call, Class::TotalPanics, input),
-        (Made::Refused(6), Some(Made::Refused(7 | 8))) => {
+    // The Rust looks at the stated total, then at the count, and then finds out when it builds.
+    let known = match (stated > limits.mpl, parts.len() as u64 > limits.mcc) {
+        (true, _) => Made::Refused(7),
+        (false, true) => Made::Refused(8),
+        (false, false) => Made::Panic,
+    };
+    let refused = made == Made::Refused(6);
+    match direct {
+        // A component over MCL cannot be handed to the Rust.
+        None => t.same(call, refused, input),
+        Some(Made::Panic) if refused && known == Made::Panic => {
+            t.explained(call, Class::TotalPanics, input)
+        }
+        Some(ref theirs) if refused && *theirs == known => {
             t.explained(call, Class::TotalRefused, input)
         }
-        // A component over MCL cannot be handed to the Rust.
-        (Made::Refused(6), None) => t.same(call, true, input),
         _ => t.same(call, false, input),
     }
 }
@@ -466,10 +480,33 @@ pub fn bare(set: &dyn Set, t: &mut Tally) {
     });
 
     let theirs = set.new_max();
-    let input = || Input::new(limits, 0, format!("Rust {}", shown(&theirs)));
+    let made = ours(limits.longest_packed(), |out| {
+        least::new_max(limits, out).map(Some)
+    });
+    let now = owned(wotskrale::Path::new_max(limits).map(Some));
+    t.same("allocated forms", now == made, || {
+        Input::new(limits, 0, format!("new_max {}", shown(&now)))
+    });
+    let greatest = Made::Bytes(pack(&greatest(limits)));
+    let input = || {
+        let said = format!("ours {}, Rust {}", shown(&made), shown(&theirs));
+        Input::new(limits, 0, said)
+    };
     let fits = limits.mcl * limits.mcc >= limits.mpl;
     match theirs {
-        Made::Panic if !fits => t.explained("new_max (Rust alone)", Class::Greatest, input),
-        _ => t.same("new_max (Rust alone)", fits && theirs != Made::Panic, input),
+        Made::Panic if !fits && made == greatest => t.explained("new_max", Class::Greatest, input),
+        _ => t.same("new_max", fits && theirs == made && made == greatest, input),
     }
+}
+
+/// The greatest path: as many components as there may be, each as long as it may be, of bytes ff.
+fn greatest(limits: Limits) -> Parts {
+    let mut left = limits.mpl;
+    let mut parts = Parts::new();
+    for _ in 0..limits.mcc {
+        let length = left.min(limits.mcl);
+        parts.push(vec![0xff; length as usize]);
+        left -= length;
+    }
+    parts
 }

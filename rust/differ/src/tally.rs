@@ -4,7 +4,7 @@ use std::collections::BTreeMap;
 
 use wotskrale::Limits;
 
-/// Differences that are explained, each by a rule that is narrow enough for another fault to show.
+/// Differences that are explained, each in docs/DIFFERENCES.md and by a rule that is narrow enough for another fault to show.
 #[derive(Clone, Copy, PartialEq, Eq, PartialOrd, Ord)]
 pub enum Class {
     /// `successor` raises a component that ends in ff.
@@ -21,6 +21,24 @@ pub enum Class {
     TotalRefused,
     /// `new_max` where MCL × MCC is below MPL.
     Greatest,
+    /// `Range::cmp` of numbers.
+    RangeOrder,
+    /// `Range::cmp` of paths.
+    PathRangeOrder,
+    /// `Area::cmp`, derived from it.
+    AreaOrder,
+    /// `AreaOfInterest::cmp`, derived from it.
+    InterestOrder,
+    /// `Range3d::cmp`, derived from it.
+    Range3dOrder,
+    /// An area to a 3d range, whose paths the Rust ends at its successor.
+    FromArea,
+    /// `PathBuilder::new_from_prefix` with more components than the reference has.
+    NoSuchPrefix,
+    /// `PathBuilder` past what was declared.
+    Overfilled,
+    /// `PathBuilder::build` short of what was declared.
+    Unfinished,
 }
 
 impl Class {
@@ -34,7 +52,20 @@ impl Class {
             }
             Class::TotalPanics => "new_from_iter, wrong total: 6, the Rust panics",
             Class::TotalRefused => "new_from_iter, wrong total: 6, the Rust refuses with 7 or 8",
-            Class::Greatest => "new_max: the Rust panics, MCL × MCC < MPL (not called on our side)",
+            Class::Greatest => "new_max: the Rust panics, MCL × MCC < MPL",
+            Class::RangeOrder => "order of ranges of numbers: the Rust's is no order",
+            Class::PathRangeOrder => "order of ranges of paths: the Rust's is no order",
+            Class::AreaOrder => "order of areas: derived from that of ranges",
+            Class::InterestOrder => "order of areas of interest: derived from that of ranges",
+            Class::Range3dOrder => "order of 3d ranges: derived from that of ranges",
+            Class::FromArea => "area to 3d range: the Rust ends at its successor",
+            Class::NoSuchPrefix => {
+                "builder from more components than there are: 10, the Rust panics"
+            }
+            Class::Overfilled => {
+                "builder past what was declared: 11, the Rust panics, at the latest when it builds"
+            }
+            Class::Unfinished => "build short of what was declared: 12, the Rust panics",
         }
     }
 }

@@ -4,9 +4,10 @@ use std::any::Any;
 use std::cmp::Ordering;
 use std::panic::{catch_unwind, AssertUnwindSafe};
 
-use oracle::{Component, InvalidPathError, Path, PathConstructionError, RangeEnd};
+use oracle::{Component, InvalidPathError, Path, PathBuilder, PathConstructionError, RangeEnd};
 use wotskrale::Limits;
 
+use crate::building::Script;
 use crate::model::{pack, Parts};
 
 /// What either side can give where a path or bytes are made.
@@ -42,6 +43,8 @@ pub trait Set {
     fn new_empty(&self) -> Made;
     /// `Path::new_max`.
     fn new_max(&self) -> Made;
+    /// `PathBuilder`, from its start to the path.
+    fn build(&self, script: &Script) -> Option<Made>;
 }
 
 /// A path of the Rust. Two of them have the same limits wherever two are compared.
@@ -157,6 +160,29 @@ impl<const MCL: usize, const MCC: usize, const MPL: usize> Set for At<MCL, MCC, 
 
     fn new_max(&self) -> Made {
         quiet(Path::<MCL, MCC, MPL>::new_max).map_or(Made::Panic, |p| packed(&p))
+    }
+
+    fn build(&self, script: &Script) -> Option<Made> {
+        let components = components::<MCL>(&script.components)?;
+        let prefix = match &script.prefix {
+            Some((parts, count, n)) => {
+                let path = Path::<MCL, MCC, MPL>::from_slices(parts).ok()?;
+                Some((path.create_prefix(*count as usize)?, *n as usize))
+            }
+            None => None,
+        };
+        let (length, count) = (script.length as usize, script.count as usize);
+        let whole = || {
+            let mut builder = match &prefix {
+                None => PathBuilder::new(length, count)?,
+                Some((path, n)) => PathBuilder::new_from_prefix(length, count, path, *n)?,
+            };
+            for component in components {
+                builder.append_component(component);
+            }
+            Ok(builder.build())
+        };
+        Some(quiet(whole).map_or(Made::Panic, made))
     }
 }
 

@@ -6,7 +6,7 @@
 //! [`ComponentTooLong`](Refusal::ComponentTooLong), the first of these that applies.
 
 use crate::refusal::written;
-use crate::{sys, Limits, PathRef, Refusal};
+use crate::{plain, Limits, PathRef, Refusal};
 
 /// The path of components lent as lengths and bytes.
 ///
@@ -26,7 +26,7 @@ pub fn from_slices(
     bytes: &[u8],
     out: &mut [u8],
 ) -> Result<usize, Refusal> {
-    written(sys::path_from_slices(limits, lengths, bytes, out))
+    written(plain::path_from_slices(limits, lengths, bytes, out))
 }
 
 /// The path of components lent as lengths and bytes, with the number of bytes stated beside them:
@@ -39,19 +39,21 @@ pub fn new_from_iter(
     bytes: &[u8],
     out: &mut [u8],
 ) -> Result<usize, Refusal> {
-    written(sys::path_new_from_iter(limits, total, lengths, bytes, out))
+    written(plain::path_new_from_iter(
+        limits, total, lengths, bytes, out,
+    ))
 }
 
 /// The path of no component.
 #[inline]
 pub fn new_empty(limits: Limits, out: &mut [u8]) -> Result<usize, Refusal> {
-    written(sys::path_new_empty(limits, out))
+    written(plain::path_new_empty(limits, out))
 }
 
 /// The path of one component.
 #[inline]
 pub fn new_singleton(limits: Limits, component: &[u8], out: &mut [u8]) -> Result<usize, Refusal> {
-    written(sys::path_new_singleton(limits, component, out))
+    written(plain::path_new_singleton(limits, component, out))
 }
 
 /// A path with a component behind it.
@@ -62,7 +64,7 @@ pub fn append(
     component: &[u8],
     out: &mut [u8],
 ) -> Result<usize, Refusal> {
-    let answer = sys::path_append(limits, path.bytes(), path.count(), component, out);
+    let answer = plain::path_append(limits, path, component, out);
     written(answer)
 }
 
@@ -75,6 +77,6 @@ pub fn append_slice(
     bytes: &[u8],
     out: &mut [u8],
 ) -> Result<usize, Refusal> {
-    let answer = sys::path_append_slice(limits, path.bytes(), path.count(), lengths, bytes, out);
+    let answer = plain::path_append_slice(limits, path, lengths, bytes, out);
     written(answer)
 }

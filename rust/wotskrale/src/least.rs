@@ -1,8 +1,8 @@
-//! The least paths above a path, written packed to the front of a buffer. Each call answers how many bytes it wrote; none
-//! where there is no such path.
+//! The least paths above a path and the greatest of all, written packed to the front of a buffer. Each call answers how many
+//! bytes it wrote; none where there is no such path.
 
-use crate::refusal::perhaps_written;
-use crate::{sys, Limits, PathRef, Refusal};
+use crate::refusal::{perhaps_written, written};
+use crate::{plain, Limits, PathRef, Refusal};
 
 /// The least path above a path.
 ///
@@ -22,7 +22,7 @@ pub fn successor(
     path: PathRef<'_>,
     out: &mut [u8],
 ) -> Result<Option<usize>, Refusal> {
-    perhaps_written(sys::path_successor(limits, path.bytes(), path.count(), out))
+    perhaps_written(plain::path_successor(limits, path, out))
 }
 
 /// The least path above a path that it does not prefix.
@@ -32,7 +32,7 @@ pub fn greater_but_not_prefixed(
     path: PathRef<'_>,
     out: &mut [u8],
 ) -> Result<Option<usize>, Refusal> {
-    let answer = sys::path_greater_but_not_prefixed(limits, path.bytes(), path.count(), out);
+    let answer = plain::path_greater_but_not_prefixed(limits, path, out);
     perhaps_written(answer)
 }
 
@@ -43,6 +43,22 @@ pub fn singleton_range(
     path: PathRef<'_>,
     out: &mut [u8],
 ) -> Result<Option<usize>, Refusal> {
-    let answer = sys::path_singleton_range(limits, path.bytes(), path.count(), out);
+    let answer = plain::path_singleton_range(limits, path, out);
     perhaps_written(answer)
+}
+
+/// The greatest path.
+///
+/// ```
+/// use wotskrale::{least, Limits, Path, Refusal};
+///
+/// let limits = Limits::new(1, 2, 5);
+/// let mut out = [0; 26];
+/// assert_eq!(least::new_max(limits, &mut out), Ok(26));
+/// assert_eq!(out[24..], [0xff, 0xff]);
+/// assert_eq!(least::new_max(limits, &mut out[..25]), Err(Refusal::OutTooSmall));
+/// ```
+#[inline]
+pub fn new_max(limits: Limits, out: &mut [u8]) -> Result<usize, Refusal> {
+    written(plain::path_new_max(limits, out))
 }

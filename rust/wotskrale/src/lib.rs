@@ -1,12 +1,15 @@
 //! Safe calls over Wotskrale, a filing core that is proved to give the answers that its definitions say.
 //!
 //! The core is linked from its archives and takes plain numbers and byte buffers. Here they are [`Limits`], lent packed paths
-//! ([`PathRef`]) and owned ones ([`Path`]); a refusal is a [`Refusal`], and "none" is [`None`]. Nothing here panics.
+//! ([`PathRef`]) and owned ones ([`Path`]), ranges, areas, entries and sheets; a refusal is a [`Refusal`], and "none" is
+//! [`None`]. Nothing here panics.
 //!
-//! Two ways to call:
+//! Three ways to call:
+//! - the types have methods that allocate a written answer;
 //! - the modules [`reading`], [`relation`], [`writing`], [`construction`] and [`least`] have one function for each exported
-//!   call. They take slices, write to the front of a lent buffer, answer how many bytes that was, and allocate nothing;
-//! - [`PathRef`] and [`Path`] have methods over them that allocate the answer.
+//!   call on paths. They take slices, write to the front of a lent buffer, answer how many bytes that was, and allocate
+//!   nothing; [`AreaMap::lent`] and `Store::lent` do the same for sheets, and [`PathBuilder::in_buffer`] for builders;
+//! - [`plain`] has one function for each exported call, as it is exported.
 //!
 //! ```
 //! use wotskrale::{Limits, Path, Refusal};
@@ -28,16 +31,35 @@
 
 #![deny(unsafe_code)]
 
+mod area;
+pub mod area_map;
+mod builder;
 pub mod construction;
+mod entry;
 pub mod least;
 mod limits;
 mod path;
+pub mod plain;
+mod range;
+mod range_3d;
 pub mod reading;
 mod refusal;
 pub mod relation;
-mod sys;
+#[cfg(feature = "store")]
+pub mod store;
 pub mod writing;
 
+pub use area::{Area, AreaOfInterest, AreaSubspace};
+pub use area_map::AreaMap;
+pub use builder::PathBuilder;
+pub use entry::Entry;
 pub use limits::Limits;
 pub use path::{Path, PathRef};
+pub use range::{Range, RangeEnd};
+pub use range_3d::Range3d;
 pub use refusal::Refusal;
+#[cfg(feature = "store")]
+pub use store::{Offered, Store};
+
+/// The greatest capacity of a sheet that the core takes.
+pub const MAX_CAPACITY: u64 = 4096;

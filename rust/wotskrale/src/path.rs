@@ -230,6 +230,22 @@ impl Path {
         made(limits, 8, |out| construction::new_empty(limits, out))
     }
 
+    /// The greatest path.
+    ///
+    /// ```
+    /// use wotskrale::{Limits, Path, Refusal};
+    ///
+    /// let limits = Limits::new(4, 2, 6);
+    /// let greatest = Path::new_max(limits)?;
+    /// assert_eq!(greatest.lent().components(limits)?, [vec![0xff; 4], vec![0xff; 2]]);
+    /// # Ok::<(), Refusal>(())
+    /// ```
+    pub fn new_max(limits: Limits) -> Result<Path, Refusal> {
+        made(limits, limits.longest_packed(), |out| {
+            least::new_max(limits, out)
+        })
+    }
+
     /// The path of one component.
     pub fn new_singleton(limits: Limits, component: &[u8]) -> Result<Path, Refusal> {
         made(limits, 16 + component.len(), |out| {
@@ -268,6 +284,12 @@ impl Path {
         made(limits, room, |out| {
             construction::new_from_iter(limits, total, &lengths, &bytes, out)
         })
+    }
+
+    /// A packed path that a call wrote to the front of a buffer.
+    pub(crate) fn written(mut bytes: Vec<u8>, length: usize) -> Path {
+        bytes.truncate(length);
+        Path { bytes }
     }
 
     /// This path, lent to a call.
@@ -310,14 +332,11 @@ fn made(
 }
 
 /// The path that a call writes, if there is one.
-fn perhaps_made(
+pub(crate) fn perhaps_made(
     limits: Limits,
     room: usize,
     write: impl FnOnce(&mut [u8]) -> Result<Option<usize>, Refusal>,
 ) -> Result<Option<Path>, Refusal> {
     let mut bytes = vec![0; room.min(limits.longest_packed())];
-    Ok(write(&mut bytes)?.map(|length| {
-        bytes.truncate(length);
-        Path { bytes }
-    }))
+    Ok(write(&mut bytes)?.map(|length| Path::written(bytes, length)))
 }

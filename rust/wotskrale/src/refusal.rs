@@ -1,8 +1,9 @@
 //! Why a call was refused.
 
+use core::cmp::Ordering;
 use core::fmt;
 
-use crate::sys::Answer;
+use crate::plain::Answer;
 
 /// Why a call was refused. Every refusal has a number; where several apply, the smallest is given.
 ///
@@ -142,6 +143,15 @@ pub(crate) fn tested(status: u64) -> Result<(), Refusal> {
     }
 }
 
+/// Whether a status stands beside an answer; not where it is that of none.
+#[inline]
+pub(crate) fn there(status: u64) -> Result<bool, Refusal> {
+    match status {
+        NONE => Ok(false),
+        _ => tested(status).map(|()| true),
+    }
+}
+
 /// An answer that is never none.
 #[inline]
 pub(crate) fn always(answer: Answer) -> Result<u64, Refusal> {
@@ -151,10 +161,23 @@ pub(crate) fn always(answer: Answer) -> Result<u64, Refusal> {
 /// An answer that may be none.
 #[inline]
 pub(crate) fn perhaps(answer: Answer) -> Result<Option<u64>, Refusal> {
-    match answer.status {
-        NONE => Ok(None),
-        _ => always(answer).map(Some),
-    }
+    Ok(there(answer.status)?.then_some(answer.value))
+}
+
+/// A yes or no.
+#[inline]
+pub(crate) fn yes(answer: Answer) -> Result<bool, Refusal> {
+    always(answer).map(|n| n != 0)
+}
+
+/// An order: 0 less, 1 equal, 2 greater.
+#[inline]
+pub(crate) fn order(answer: Answer) -> Result<Ordering, Refusal> {
+    always(answer).map(|n| match n {
+        0 => Ordering::Less,
+        1 => Ordering::Equal,
+        _ => Ordering::Greater,
+    })
 }
 
 /// How many bytes were written. A number of bytes in memory fits a `usize`.

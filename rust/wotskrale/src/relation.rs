@@ -2,8 +2,8 @@
 
 use core::cmp::Ordering;
 
-use crate::refusal::always;
-use crate::{sys, Limits, PathRef, Refusal};
+use crate::refusal::{always, order, yes};
+use crate::{plain, Limits, PathRef, Refusal};
 
 /// The order of two paths: component by component, bytes unsigned, a proper prefix smaller.
 ///
@@ -19,46 +19,31 @@ use crate::{sys, Limits, PathRef, Refusal};
 /// ```
 #[inline]
 pub fn compare(limits: Limits, a: PathRef<'_>, b: PathRef<'_>) -> Result<Ordering, Refusal> {
-    let order = always(sys::path_compare(
-        limits,
-        a.bytes(),
-        a.count(),
-        b.bytes(),
-        b.count(),
-    ))?;
-    Ok(match order {
-        0 => Ordering::Less,
-        1 => Ordering::Equal,
-        _ => Ordering::Greater,
-    })
+    order(plain::path_compare(limits, a, b))
 }
 
 /// Whether two paths have the same components.
 #[inline]
 pub fn equal(limits: Limits, a: PathRef<'_>, b: PathRef<'_>) -> Result<bool, Refusal> {
-    let yes = sys::path_equal(limits, a.bytes(), a.count(), b.bytes(), b.count());
-    always(yes).map(|n| n != 0)
+    yes(plain::path_equal(limits, a, b))
 }
 
 /// Whether `a` is a prefix of `b`.
 #[inline]
 pub fn is_prefix_of(limits: Limits, a: PathRef<'_>, b: PathRef<'_>) -> Result<bool, Refusal> {
-    let yes = sys::path_is_prefix_of(limits, a.bytes(), a.count(), b.bytes(), b.count());
-    always(yes).map(|n| n != 0)
+    yes(plain::path_is_prefix_of(limits, a, b))
 }
 
 /// Whether `b` is a prefix of `a`.
 #[inline]
 pub fn is_prefixed_by(limits: Limits, a: PathRef<'_>, b: PathRef<'_>) -> Result<bool, Refusal> {
-    let yes = sys::path_is_prefixed_by(limits, a.bytes(), a.count(), b.bytes(), b.count());
-    always(yes).map(|n| n != 0)
+    yes(plain::path_is_prefixed_by(limits, a, b))
 }
 
 /// Whether one of the two is a prefix of the other.
 #[inline]
 pub fn is_related(limits: Limits, a: PathRef<'_>, b: PathRef<'_>) -> Result<bool, Refusal> {
-    let yes = sys::path_is_related(limits, a.bytes(), a.count(), b.bytes(), b.count());
-    always(yes).map(|n| n != 0)
+    yes(plain::path_is_related(limits, a, b))
 }
 
 /// How many components the longest common prefix has.
@@ -68,11 +53,5 @@ pub fn longest_common_prefix(
     a: PathRef<'_>,
     b: PathRef<'_>,
 ) -> Result<u64, Refusal> {
-    always(sys::path_longest_common_prefix(
-        limits,
-        a.bytes(),
-        a.count(),
-        b.bytes(),
-        b.count(),
-    ))
+    always(plain::path_longest_common_prefix(limits, a, b))
 }

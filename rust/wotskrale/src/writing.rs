@@ -2,7 +2,7 @@
 //! short gets [`OutTooSmall`](Refusal::OutTooSmall) and stays as it was.
 
 use crate::refusal::{perhaps_written, written};
-use crate::{sys, Limits, PathRef, Refusal};
+use crate::{plain, Limits, PathRef, Refusal};
 
 /// The bytes of component `i`; none where there are no more than `i`.
 #[inline]
@@ -12,7 +12,7 @@ pub fn write_component(
     i: u64,
     out: &mut [u8],
 ) -> Result<Option<usize>, Refusal> {
-    let answer = sys::path_write_component(limits, path.bytes(), path.count(), i, out);
+    let answer = plain::path_write_component(limits, path, i, out);
     perhaps_written(answer)
 }
 
@@ -36,7 +36,7 @@ pub fn write_prefix(
     n: u64,
     out: &mut [u8],
 ) -> Result<Option<usize>, Refusal> {
-    let answer = sys::path_write_prefix(limits, path.bytes(), path.count(), n, out);
+    let answer = plain::path_write_prefix(limits, path, n, out);
     perhaps_written(answer)
 }
 
@@ -48,12 +48,5 @@ pub fn write_longest_common_prefix(
     b: PathRef<'_>,
     out: &mut [u8],
 ) -> Result<usize, Refusal> {
-    written(sys::path_write_longest_common_prefix(
-        limits,
-        a.bytes(),
-        a.count(),
-        b.bytes(),
-        b.count(),
-        out,
-    ))
+    written(plain::path_write_longest_common_prefix(limits, a, b, out))
 }

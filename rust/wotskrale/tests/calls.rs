@@ -2,7 +2,10 @@
 
 use std::cmp::Ordering;
 
-use wotskrale::{construction, least, reading, relation, writing, Limits, Path, PathRef, Refusal};
+use wotskrale::{
+    construction, least, plain, reading, relation, writing, Area, AreaMap, AreaSubspace, Limits,
+    Path, PathBuilder, PathRef, Range, Range3d, RangeEnd, Refusal,
+};
 
 fn path(limits: Limits, components: Components) -> Path {
     Path::from_slices(limits, components).expect("a path within the limits")
@@ -112,6 +115,124 @@ fn relations_and_readings() {
     assert_eq!(a.lent().append(limits, &[]), Ok(b.clone()));
     assert_eq!(Path::new_singleton(limits, &[1]), Ok(a.clone()));
     assert_eq!(a.lent().singleton_range(limits), Ok(Some(b)));
+}
+
+#[test]
+fn the_marked_cases_of_the_greatest_path() {
+    let cases: [(Limits, Components); 3] = [
+        (Limits::new(4, 2, 6), &[&[255; 4], &[255; 2]]),
+        (Limits::new(1, 2, 5), &[&[255], &[255]]),
+        (Limits::new(3, 0, 7), &[]),
+    ];
+    for (limits, components) in cases {
+        assert_eq!(Path::new_max(limits), Ok(path(limits, components)));
+    }
+}
+
+#[test]
+fn the_marked_cases_of_ranges_and_areas() {
+    let open = Range::new_open(9);
+    let touching = Range::new(3, RangeEnd::Closed(9));
+    assert_eq!(touching.intersection(open), Ok(None));
+    let meeting = Range::new(3, RangeEnd::Closed(10)).intersection(open);
+    assert_eq!(meeting, Ok(Some(Range::new(9, RangeEnd::Closed(10)))));
+    let limits = Limits::new(2, 2, 3);
+    let (base, end) = (path(limits, &[&[1]]), path(limits, &[&[1, 0]]));
+    let mut out = [0xee; 27];
+    let area = Area::new(AreaSubspace::Any, base.lent(), Range::FULL);
+    let range = Range3d::from_area(limits, area, &mut out).expect("an area");
+    let found = range.paths.get_end().map(|end| end.to_path(limits));
+    assert_eq!(found, Some(Ok(end)));
+    let mut short = [0; 17];
+    let refused = Range3d::from_area(limits, area, &mut short).map(|_| ());
+    assert_eq!(refused, Err(Refusal::OutTooSmall));
+}
+
+#[test]
+fn kinds_that_are_neither_are_refused() {
+    let end = plain::End { kind: 2, end: 0 };
+    let range = plain::Range { start: 0, end };
+    assert_eq!(plain::range_is_open(range).status, 3);
+    let area = plain::Area {
+        times: range,
+        ..Area::new_full().into()
+    };
+    let mut map = AreaMap::fresh(Limits::new(1, 1, 1), 1).expect("sizes within the bounds");
+    let before = map.bytes().to_vec();
+    let mut sheet = before.clone();
+    assert_eq!(plain::map_insert(&mut sheet, area, 1).status, 3);
+    assert_eq!(sheet, before);
+    assert_eq!(plain::map_insert(&mut sheet[1..], area, 1).status, 2);
+    assert_eq!(map.insert(Area::new_full(), 1), Ok(0));
+}
+
+#[test]
+fn a_builder_in_a_lent_buffer_leaves_what_is_behind() {
+    let limits = Limits::new(2, 2, 3);
+    let mut buffer = [0xee; 30];
+    let mut builder =
+        PathBuilder::in_buffer(limits, 3, 2, &mut buffer[..]).expect("room for the path");
+    assert_eq!(
+        builder.append_component(&[1, 2, 3]),
+        Err(Refusal::ComponentTooLong)
+    );
+    assert_eq!(builder.append_component(&[1, 2]), Ok(()));
+    assert_eq!(builder.append_component(&[3]), Ok(()));
+    assert_eq!(builder.build(), Ok(path(limits, &[&[1, 2], &[3]])));
+    assert_eq!(buffer[27..], [0xee; 3]);
+    let short = PathBuilder::in_buffer(limits, 3, 2, &mut buffer[..26]);
+    assert_eq!(short.err(), Some(Refusal::OutTooSmall));
+}
+
+#[cfg(feature = "store")]
+#[test]
+fn offers_that_are_refused_leave_the_store_as_it_was() {
+    use wotskrale::{Entry, Offered, Store};
+
+    let limits = Limits::new(1, 1, 1);
+    let p = path(limits, &[&[1]]);
+    let q = path(limits, &[&[2]]);
+    let entry = Entry {
+        namespace: 3,
+        subspace: 0,
+        path: p.lent(),
+        timestamp: 1,
+        payload_length: u64::MAX,
+        digest: [0; 32],
+    };
+    let mut store = Store::fresh(limits, 1, 3).expect("sizes within the bounds");
+    assert_eq!(store.offer(&entry), Ok(Offered::Taken(0)));
+    let before = store.bytes().to_vec();
+    for (offer, refusal) in [
+        (
+            Entry {
+                namespace: 4,
+                ..entry
+            },
+            Refusal::WrongNamespace,
+        ),
+        (
+            Entry {
+                path: PathRef::new(p.bytes(), 2),
+                ..entry
+            },
+            Refusal::BadPath,
+        ),
+        (entry, Refusal::TotalFull),
+        (
+            Entry {
+                path: q.lent(),
+                payload_length: 0,
+                ..entry
+            },
+            Refusal::NoRoom,
+        ),
+    ] {
+        assert_eq!(store.offer(&offer), Err(refusal));
+        assert_eq!(store.bytes(), before);
+    }
+    assert_eq!(store.entry_path(0), Ok(Some(p)));
+    assert_eq!(store.entry_path(1), Ok(None));
 }
 
 #[test]
