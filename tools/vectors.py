@@ -5,7 +5,7 @@
 writes stdin and stdout of crates/vectors (paths read, related, written), of crates/vectors_making (paths made) and of
 crates/vectors_builder (runs of the builder, and the greatest path). The answers are computed here, from document 01 and from the
 comments of the calls; nothing of the core is read or run. The random cases have a fixed seed, so that the files come out the
-same.
+same. In front of them stands the sample of the Rust original's answers in rust/sample, with which the model has to agree.
 """
 import functools
 import itertools
@@ -1034,9 +1034,23 @@ def random_runs(count):
             yield line
 
 
+def sample(program):
+    """The fixed sample of the Rust original's answers, where rust/sample has one for the program: cases and answers, line by line."""
+    folder = os.path.join(os.path.dirname(os.path.abspath(__file__)), "..", "rust", "sample")
+    if not os.path.exists(os.path.join(folder, program + ".in")):
+        return [], []
+    both = [open(os.path.join(folder, program + end)).read().splitlines() for end in (".in", ".out")]
+    assert len(both[0]) == len(both[1]), program
+    return both
+
+
 def store(program, answer_to, sections):
     here = os.path.join(os.path.dirname(os.path.abspath(__file__)), "..", "crates", program)
-    lines = [line for section in sections for line in section]
+    cases, replies = sample(program)
+    # The model has to say what the Rust says.
+    assert [answer_to(case) for case in cases] == replies, program
+    before = ["# answers of the Rust original (rust/README.md says how the sample was made)"] + cases if cases else []
+    lines = before + [line for section in sections for line in section]
     answers = [a for a in map(answer_to, lines) if a is not None]
     # The last line has no newline behind it.
     with open(os.path.join(here, "stdin"), "w", newline="") as f:
