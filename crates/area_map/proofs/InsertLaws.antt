@@ -31,7 +31,8 @@ use Rattle.area_kinds.specs.AreaKinds.{Parts, areaWith}
 use Rattle.map_form.specs.Maps.{MapSizes, mapShape, Rule, sizesIn, countIn, rulesIn}
 use Rattle.map_form.specs.MapTest.{isMap}
 use Rattle.map_form.proofs.MapTestLaws.{Passed, map-passed}
-use Rattle.map_law.specs.Insertions.{Insertion, partsIn, areaRefusal, insertRefusal, insertAnswer, insertLeaves, leavesFor, leavesUnless, partsRefusal, areaAnswer, areaLeaves, withRow, withRules}
+use Rattle.map_law.specs.Insertions.{Insertion, partsIn, areaRefusal, insertRefusal, insertAnswer, insertLeaves, leavesFor, withRules}
+use Rattle.area_map.specs.Putting.{leavesUnless, partsRefusal, areaAnswer, areaLeaves, withRow}
 use Rattle.area_map.proofs.AddedLaws.{rule-added}
 use Rattle.map_law.proofs.ArgumentLaws.{parts-stand}
 

@@ -32,7 +32,7 @@ ghost use Rattle.area.specs.LentAreas.{areaAt, areaIn};
 ghost use Rattle.map_form.specs.Maps.{mapHeadSize, mapShape, ruleNumbers, sizesIn};
 ghost use Rattle.map_form.specs.MapTest.{isMap};
 ghost use Rattle.area_kinds.specs.AreaKinds.{parts};
-ghost use Rattle.map_law.specs.Insertions.{areaAnswer, areaLeaves, withRow};
+ghost use Rattle.area_map.specs.Putting.{areaAnswer, areaLeaves, withRow};
 
 // The numbers of a rule's head, one behind the other.
 fn write_head(head: &mut [u8], area: Area, value: u64)

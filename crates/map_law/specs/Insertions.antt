@@ -11,12 +11,11 @@ use Rattle.willow.specs.declared.Refusal.the-variants.{BadLimits, BadKind, NoRo
 use Rattle.willow.specs.Answers.{orElse, unless, limitsRefusal, lentRefusal, pathIn}
 use Rattle.willow.specs.Areas.{Area}
 use Rattle.willow.specs.Limits.{acceptedCapacity, maxWord}
-use Rattle.willow.specs.Numbers.{Bytes, le}
+use Rattle.willow.specs.Numbers.{Bytes}
 use Rattle.willow.specs.Refusals.{Outcome, value}
-use Rattle.number.specs.Overwriting.{overwrite}
-use Rattle.sheet.specs.Rows.{sheetLength, rowsOf, withRows}
+use Rattle.sheet.specs.Rows.{sheetLength}
 use Rattle.area_kinds.specs.AreaKinds.{Parts, areaFrom, areaWith}
-use Rattle.map_form.specs.Maps.{MapSizes, mapShape, Rule, ruleRow, mapLayout, sizesIn, countIn, rulesIn}
+use Rattle.map_form.specs.Maps.{mapShape, Rule, mapLayout, sizesIn, countIn, rulesIn}
 use Rattle.map_form.specs.MapTest.{mapRefusal}
 
 -- A FRESH MAP. 1, for the limits and "sheet capacity N over 4,096"; then the layout of no rules.
@@ -96,26 +95,6 @@ leavesFor s x none (some a) = withRules s (rulesIn s ++ (ruleWith x a ∷ []))
 
 unfoldable pub insertLeaves : List ℕ → Insertion → List ℕ
 insertLeaves s x = leavesFor s x (insertRefusal s x) (partsIn (x .area))
-
--- The same behind 2 and 3: of an area's parts and the buffer of its path, 5 and then 14.
-unfoldable pub partsRefusal : List ℕ → Parts → List ℕ → Option Refusal
-partsRefusal s a b = orElse (lentRefusal (sizesIn s .limits) b (a .count)) (roomRefusal (countIn s) (sizesIn s .capacity))
-
-unfoldable pub areaAnswer : List ℕ → Parts → List ℕ → Outcome ℕ
-areaAnswer s a b = unless (partsRefusal s a b) (value (countIn s))
-
-abbrev pub leavesUnless : List ℕ → Option Refusal → List ℕ → List ℕ
-leavesUnless s (some r) t = s
-leavesUnless s none t = t
-
-unfoldable pub areaLeaves : List ℕ → Parts → List ℕ → ℕ → List ℕ
-areaLeaves s a b v =
-    leavesUnless s (partsRefusal s a b)
-    (withRules s (rulesIn s ++ (record { area = areaWith a (pathIn b (a .count)); value = v } ∷ [])))
-
--- The bytes of a sheet with a rule in row n, whatever stood there, and n + 1 rows in use.
-unfoldable pub withRow : MapSizes → List ℕ → ℕ → Rule → List ℕ
-withRow z s n r = overwrite (withRows (mapShape z) s (overwrite (rowsOf (mapShape z) s) n (ruleRow (z .limits) r ∷ []))) 32 (le 8 (n + 1))
 
 -- Arguments as the calls take them.
 abbrev pub argument : ℕ → ℕ → List ℕ → ℕ → ℕ → ℕ → ℕ → AreaArgument
