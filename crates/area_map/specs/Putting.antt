@@ -9,7 +9,7 @@ use Rattle.willow.specs.Refusals.{Outcome, value}
 use Rattle.number.specs.Overwriting.{overwrite}
 use Rattle.sheet.specs.Rows.{rowsOf, withRows}
 use Rattle.area_kinds.specs.AreaKinds.{Parts, areaWith}
-use Rattle.map_form.specs.Maps.{MapSizes, mapShape, Rule, ruleRow, sizesIn, countIn, rulesIn}
+use Rattle.map_form.specs.Maps.{MapSizes, mapShape, Rule, ruleRow, sizesIn, countPlace, countIn, rulesIn}
 use Rattle.map_law.specs.Insertions.{roomRefusal, withRules}
 
 -- Behind 2 and 3: of an area's parts and the buffer of its path, 5 and then 14.
@@ -30,4 +30,4 @@ areaLeaves s a b v =
 
 -- The bytes of a sheet with a rule in row n, whatever stood there, and n + 1 rows in use.
 unfoldable pub withRow : MapSizes → List ℕ → ℕ → Rule → List ℕ
-withRow z s n r = overwrite (withRows (mapShape z) s (overwrite (rowsOf (mapShape z) s) n (ruleRow (z .limits) r ∷ []))) 32 (le 8 (n + 1))
+withRow z s n r = overwrite (withRows (mapShape z) s (overwrite (rowsOf (mapShape z) s) n (ruleRow (z .limits) r ∷ []))) countPlace (le 8 (n + 1))

@@ -84,8 +84,12 @@ sizesIn s = record {
   capacity = numberAt s 24;
 }
 
+-- Where the number of rules stands.
+abbrev pub countPlace : ℕ
+countPlace = 32
+
 abbrev pub countIn : List ℕ → ℕ
-countIn s = numberAt s 32
+countIn s = numberAt s countPlace
 
 abbrev pub subspaceAt : ℕ → ℕ → AreaSubspace
 subspaceAt kind n = cond (eqb kind 0) Any (Id n)

@@ -10,7 +10,7 @@ use Rattle.willow.specs.Numbers.{le}
 use Rattle.willow.specs.Store.{Answer, answerEntry, afterAnswer}
 use Rattle.number.specs.Overwriting.{overwrite}
 use Rattle.sheet.specs.Rows.{Row, rowsOf, sheetLength, zeroRow}
-use Rattle.store_form.specs.Stores.{storeShape, storeLayout, entryRow, sizesIn, stateIn}
+use Rattle.store_form.specs.Stores.{storeShape, storeLayout, entryRow, countPlace, heldPlace, letGoPlace, sizesIn, stateIn}
 use Rattle.store_rows.specs.EntryRows.{sizesOf}
 use Rattle.store_closing.specs.Filing.{staysBy, closedUp, putAt}
 
@@ -32,4 +32,4 @@ filedRows L N n at o s =
 
 -- The count and both totals written.
 unfoldable pub withCounts : ℕ → ℕ → ℕ → List ℕ → List ℕ
-withCounts n held letGo s = overwrite (overwrite (overwrite s 32 (le 8 n)) 48 (le 8 held)) 56 (le 8 letGo)
+withCounts n held letGo s = overwrite (overwrite (overwrite s countPlace (le 8 n)) heldPlace (le 8 held)) letGoPlace (le 8 letGo)

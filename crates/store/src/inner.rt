@@ -24,7 +24,7 @@ ghost use Rattle.packed.specs.Readable.{Readable};
 ghost use Rattle.entry.specs.Heads.{entryAt};
 ghost use Rattle.sheet.specs.Cells.{cellSizeOf};
 ghost use Rattle.sheet.specs.Rows.{withRows};
-ghost use Rattle.store_form.specs.Stores.{sizesIn, storeShape};
+ghost use Rattle.store_form.specs.Stores.{sizesIn, storeNumbers, storeShape};
 ghost use Rattle.store_form.specs.StoreTest.{isStore};
 ghost use Rattle.store_rows.specs.EntryRows.{RowsReadable, sizesOf};
 ghost use Rattle.store_answers.specs.Calls.{answerOf};
@@ -51,7 +51,7 @@ fn file_rows(
 
 // The count and both totals written.
 fn set_counts(sheet: &mut [u8], n: u64, held: u64, let_go: u64)
-    requires { ⌜ 64 ≤ length (now sheet) ⌝ }
+    requires { ⌜ 8 * storeNumbers ≤ length (now sheet) ⌝ }
     ensures { λ _. ⌜ now (sheet .exit) ≡ withCounts n held «let_go» (now (sheet .entry)) ⌝ }
 {
     number::write_u64(sheet, COUNT_AT, n);

@@ -21,13 +21,13 @@ ghost use Rattle.packed.specs.Readable.{Readable};
 ghost use Rattle.sheet.specs.Cells.{cellSizeOf, pathCell};
 ghost use Rattle.sheet.specs.Rows.{Room, rowsOf, withRows};
 ghost use Rattle.entry.specs.Heads.{entryAt};
-ghost use Rattle.store_form.specs.Stores.{entryHead, storeShape};
+ghost use Rattle.store_form.specs.Stores.{entryHead, storeHeadSize, storeShape};
 ghost use Rattle.store_rows.specs.EntryRows.{sizesOf};
 ghost use Rattle.store_closing.specs.Filing.{putAt};
 
 // A head's numbers and digest, one behind the other.
 fn write_head(out: &mut [u8], head: Head)
-    requires { ⌜ length (now out) ≡ 56 ⌝ }
+    requires { ⌜ length (now out) ≡ storeHeadSize ⌝ }
     ensures { λ _. ⌜ now (out .exit) ≡ entryHead (entryAt 0 head []) ⌝ }
 {
     let digest = head.digest;

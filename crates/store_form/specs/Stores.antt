@@ -80,14 +80,24 @@ sizesIn s = record {
   namespace = numberAt s 40;
 }
 
+-- Where the numbers stand that an offer changes.
+abbrev pub countPlace : ℕ
+countPlace = 32
+
+abbrev pub heldPlace : ℕ
+heldPlace = 48
+
+abbrev pub letGoPlace : ℕ
+letGoPlace = 56
+
 abbrev pub countIn : List ℕ → ℕ
-countIn s = numberAt s 32
+countIn s = numberAt s countPlace
 
 abbrev pub heldIn : List ℕ → ℕ
-heldIn s = numberAt s 48
+heldIn s = numberAt s heldPlace
 
 abbrev pub letGoIn : List ℕ → ℕ
-letGoIn s = numberAt s 56
+letGoIn s = numberAt s letGoPlace
 
 -- The entry of a row, in a namespace.
 unfoldable pub entryIn : ℕ → Row → Entry
