@@ -14,7 +14,7 @@ ghost use Rattle.willow.specs.Answers.{writtenBuffer, writtenLength};
 ghost use Rattle.convention.specs.Exports.{given, itself, limitsOf, refusalStatus};
 ghost use Rattle.map_form.specs.MapTest.{mapRefusal};
 ghost use Rattle.map_law.specs.Insertions.{argument, freshMap, insertAnswer, insertion, insertLeaves};
-ghost use Rattle.map_listing.specs.Listings.{listedBytes, listedNumber, listing};
+ghost use Rattle.listing_law.specs.Listings.{listedBytes, listedNumber, listing};
 
 // A fresh map of these sizes written to the front of a buffer; answers its length. Refuses 1, then 15.
 #[no_mangle]

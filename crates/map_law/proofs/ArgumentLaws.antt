@@ -12,11 +12,14 @@ use Rattle.willow.specs.declared.AreaSubspace.{AreaSubspace}
 use Rattle.willow.specs.declared.AreaSubspace.the-variants.{Any, Id}
 use Rattle.willow.specs.Areas.{subspaceFrom, SubspaceWord}
 use Rattle.willow.specs.Limits.{maxWord}
+use Rattle.willow.specs.Packed.{Lent}
+use Rattle.willow.specs.Paths.{Path}
 use Rattle.willow.specs.Ranges.{End, closed, endless, EndHas, endFrom}
 use Rattle.kinds.specs.Kinds.{both, fromStart}
-use Rattle.area_kinds.specs.AreaKinds.{Parts, partsOf, areaFrom}
+use Rattle.area_kinds.specs.AreaKinds.{Parts, partsOf, areaFrom, areaWith}
+use Rattle.map_form.specs.Maps.{MapSizes}
 use Rattle.map_law.specs.Insertions.{AreaArgument, PassedArea, partsIn}
-use Rattle.map_law.specs.MapTheorem.{GoodKinds}
+use Rattle.map_law.specs.MapTheorem.{GoodKinds, Means}
 
 -- A KIND stands for something exactly if it is 0 or 1; x is what kind 0 stands for, y what kind 1 does.
 abbrev ofKind : {A : Type 0} → ℕ → A → A → Option A
@@ -92,6 +95,19 @@ none-bad x e g = go (none-stand x e)
     go : (subspaceFrom (x .kind) (x .id) ≡ none) ⊎ (endFrom (x .endKind) (x .end) ≡ none) → ⊥
     go (inl f) = good-some (x .kind) Any (Id (x .id)) (g .0) f
     go (inr f) = good-some (x .endKind) endless (closed (x .end)) (g .1) f
+
+-- THE AREA that they mean, with the path that is lent.
+pub parts-mean : (z : MapSizes) (x : AreaArgument) (a : Parts) → partsIn x ≡ some a → (p : Path) → Lent (z .limits) (x .buffer) (x .count) p
+    → Means z x (areaWith a p)
+unfolding subspaceFrom endFrom
+parts-mean z x a e p l =
+    let h = parts-stand x a e in
+    record {
+      subspace = kind-some (x .kind) Any (Id (x .id)) (a .subspace) (h .subspace);
+      path = l;
+      start = h .start;
+      end = kind-some (x .endKind) endless (closed (x .end)) (a .times .end) (h .end);
+    }
 
 -- ITS NUMBERS are of 64 bits where those passed are.
 module _ (x : AreaArgument) (a : Parts) (e : partsIn x ≡ some a) (w : PassedArea x) where

@@ -27,7 +27,7 @@ use Rattle.map_form.specs.MapTest.{mapRefusal}
 use Rattle.map_form.proofs.MapReads.{fitting, sizes-back, count-back, rules-back, passes}
 use Rattle.map_law.specs.Insertions.{Insertion, Passed, partsIn, kindsMissing, areaRefusal, roomRefusal, insertRefusal, insertAnswer, insertLeaves, ruleWith, withRules}
 use Rattle.map_law.specs.MapTheorem.{Passes, Table, Grown}
-use Rattle.map_law.proofs.ArgumentLaws.{parts-good, none-bad, parts-subspace-word, parts-start-word, parts-end-word}
+use Rattle.map_law.proofs.ArgumentLaws.{parts-good, parts-mean, none-bad, parts-subspace-word, parts-start-word, parts-end-word}
 use Rattle.map_law.proofs.TableLaws as table
 
 -- A step: what was answered and what is left.
@@ -56,14 +56,7 @@ module _ (z : MapSizes) (w : Words (z .limits)) (x : Insertion) (passed : Passed
       cc
 
   rule-passes : Passes z x (ruleWith x a)
-  rule-passes = record {
-    parts = a;
-    stand = stand;
-    path = p;
-    lent = lends;
-    same-area = rw path-is;
-    same-value = refl;
-  }
+  rule-passes = record { area-meant = parts-mean z (x .area) a stand (pathIn (x .area .buffer) (x .area .count)) (rw path-is lends); same-value = refl }
 
   rule-valid : ValidRule (z .limits) (ruleWith x a)
   rule-valid = record {

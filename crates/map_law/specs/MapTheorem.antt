@@ -3,11 +3,13 @@ use Prim.Native.Nat.{ℕ, _≤_, _<_}
 use mathlib.Core.Path.{_≡_}
 use mathlib.Core.Logic.{_⊎_, _↔_}
 use mathlib.Core.List.{List, [], _∷_, _++_}
-use mathlib.Core.Option.{some}
 use lib.ListN.{length, drop}
 use Rattle.willow.specs.declared.Limits.{Limits}
 use Rattle.willow.specs.declared.Refusal.the-variants.{BadKind, BadPath, NoRoom}
+use Rattle.willow.specs.declared.AreaSubspace.the-variants.{Any, Id}
 use Rattle.willow.specs.Answers.{writtenBuffer}
+use Rattle.willow.specs.Areas.{Area}
+use Rattle.willow.specs.Ranges.{closed, endless}
 use Rattle.willow.specs.Limits.{Accepted, maxCapacity}
 use Rattle.willow.specs.Lists.{All}
 use Rattle.willow.specs.Numbers.{Bytes}
@@ -15,9 +17,8 @@ use Rattle.willow.specs.Packed.{Lent}
 use Rattle.willow.specs.Paths.{Path}
 use Rattle.willow.specs.Refusals.{Outcome, refused, absent, value}
 use Rattle.sheet.specs.Rows.{sheetLength}
-use Rattle.area_kinds.specs.AreaKinds.{Parts, areaWith}
 use Rattle.map_form.specs.Maps.{MapSizes, mapShape, Rule, mapLayout}
-use Rattle.map_law.specs.Insertions.{freshMap, AreaArgument, Insertion, Passed, partsIn, insertAnswer, insertLeaves}
+use Rattle.map_law.specs.Insertions.{freshMap, AreaArgument, Insertion, Passed, insertAnswer, insertLeaves}
 
 -- Each call "gets it as the one before left it": the bytes after a list of insertions, and their answers.
 abbrev pub bytesAfter : List ℕ → List Insertion → List ℕ
@@ -35,13 +36,16 @@ GoodKinds x = ((x .kind ≡ 0) ⊎ (x .kind ≡ 1)) × ((x .endKind ≡ 0) ⊎ (
 abbrev pub LendsPath : MapSizes → AreaArgument → Type 0
 LendsPath z x = (p : Path) × Lent (z .limits) (x .buffer) (x .count) p
 
--- .. and so the rule that an insertion passes.
+-- .. and so the area that is passed: "end 0 open, 1 closed; subspace 0 any, 1 one id. A number .. passed beside kind 0 is not read";
+pub record Means (z : MapSizes) (x : AreaArgument) (a : Area) : Type 0 where
+  pub subspace : ((x .kind ≡ 0) × (a .subspace ≡ Any)) ⊎ ((x .kind ≡ 1) × (a .subspace ≡ Id (x .id)))
+  pub path : Lent (z .limits) (x .buffer) (x .count) (a .path)
+  pub start : a .times .start ≡ x .start
+  pub end : ((x .endKind ≡ 0) × (a .times .end ≡ endless)) ⊎ ((x .endKind ≡ 1) × (a .times .end ≡ closed (x .end)))
+
+-- .. and the rule that an insertion passes.
 pub record Passes (z : MapSizes) (x : Insertion) (r : Rule) : Type 0 where
-  pub parts : Parts
-  pub stand : partsIn (x .area) ≡ some parts
-  pub path : Path
-  pub lent : Lent (z .limits) (x .area .buffer) (x .area .count) path
-  pub same-area : r .area ≡ areaWith parts path
+  pub area-meant : Means z (x .area) (r .area)
   pub same-value : r .value ≡ x .value
 
 -- THE TABLE, both ways, where these rules stand in the map: each answer exactly if its condition holds and that of no refusal

@@ -1,4 +1,3 @@
 pub mod ListCallLaws
-pub mod ListingProofs
 pub mod MeetingLaws
 pub mod MeetsLaws

@@ -25,7 +25,7 @@ use Rattle.map_form.specs.Maps.{sizesIn, rulesIn}
 use Rattle.map_form.specs.MapTest.{isMap}
 use Rattle.map_form.proofs.MapTestLaws.{map-passed}
 use Rattle.map_law.specs.Insertions.{AreaArgument, partsIn, kindsMissing, areaRefusal, areaPassed}
-use Rattle.map_listing.specs.Listings.{positions, positionsFor, listing, listedNumber, listedBytes}
+use Rattle.listing_law.specs.Listings.{positions, positionsFor, listing, listedNumber, listedBytes}
 
 -- No map: 2.
 module _ (s : List ℕ) (failed : isMap s ≡ false) where

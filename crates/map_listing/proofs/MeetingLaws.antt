@@ -20,7 +20,7 @@ use Rattle.number.specs.Records.{laid}
 use Rattle.number.proofs.OverwritingLaws.{length-overwrite, overwrite-at-front, overwrite-nil, overwrite-append}
 use Rattle.number.proofs.RecordLaws.{sized-all, length-laid}
 use Rattle.map_form.specs.Maps.{Rule}
-use Rattle.map_listing.specs.Listings.{meets, positionsFrom, positions, listedNumber, listedBytes}
+use Rattle.listing_law.specs.Listings.{meets, positionsFrom, positions, listedNumber, listedBytes}
 use Rattle.map_reading.specs.Rules.{noRule}
 
 -- there are no more positions than rules

@@ -7,7 +7,7 @@ use Rattle.willow.specs.Refusals.{Outcome, refused, absent, value}
 use Rattle.area_intersection.specs.declared.AreaMet.{AreaMet}
 use Rattle.area_intersection.specs.Standing.{standing, standingFor, metOutcome}
 use Rattle.map_form.specs.Maps.{Rule}
-use Rattle.map_listing.specs.Listings.{isSome, meets}
+use Rattle.listing_law.specs.Listings.{isSome, meets}
 
 -- WHETHER AREAS MEET, from what their intersection answers: yes unless there is none.
 abbrev pub isAnswered : {A : Type 0} → Outcome A → Bool

@@ -19,7 +19,7 @@ ghost use Rattle.packed.specs.Readable.{Readable};
 ghost use Rattle.area.specs.LentAreas.{areaIn};
 ghost use Rattle.map_form.specs.Maps.{countIn, rulesIn};
 ghost use Rattle.map_form.specs.MapTest.{isMap};
-ghost use Rattle.map_listing.specs.Listings.{listedBytes, listedNumber, meets, positions};
+ghost use Rattle.listing_law.specs.Listings.{listedBytes, listedNumber, meets, positions};
 ghost use Rattle.map_reading.specs.Rules.{ruleAt};
 
 // Whether the area of rule i and another intersect.

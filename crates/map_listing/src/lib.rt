@@ -14,7 +14,7 @@ use willow::Tested;
 ghost use mathlib.Core.Path.{_≡_};
 ghost use Rattle.willow.specs.Answers.{countedOutcome, writtenBuffer};
 ghost use Rattle.map_law.specs.Insertions.{argument};
-ghost use Rattle.map_listing.specs.Listings.{listedBytes, listedNumber, listing};
+ghost use Rattle.listing_law.specs.Listings.{listedBytes, listedNumber, listing};
 
 // The positions of the rules whose area intersects an area, in insertion order, written in 8 bytes each to the front of a buffer;
 // answers how many. The area comes as its kinds and numbers, its path as a buffer with a count. Refuses 2, 3, 5, then 15.

@@ -20,7 +20,7 @@ use Rattle.map_form.proofs.MapProofs.{map-reading}
 use Rattle.map_law.specs.Insertions.{AreaArgument, Insertion, partsIn, kindsMissing, areaRefusal, areaPassed, roomRefusal, insertRefusal, insertAnswer}
 use Rattle.map_reading.specs.Rules.{noRule, ruleParts, countOutcome, ruleRead, rulePath}
 use Rattle.map_reading.proofs.RuleAtLaws.{rules-many}
-use Rattle.map_listing.specs.Listings.{positions, positionsFor, listing}
+use Rattle.listing_law.specs.Listings.{positions, positionsFor, listing}
 use Rattle.store_form.specs.Stores as stores
 use Rattle.store_form.specs.StoreTest.{isStore, storeRefusal}
 use Rattle.store_form.proofs.ReadingLaws.{store-reading}

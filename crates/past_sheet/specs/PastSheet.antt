@@ -10,7 +10,7 @@ use Rattle.map_form.specs.Maps.{MapSizes, Rule, IsMap}
 use Rattle.map_form.specs.MapTest.{mapRefusal}
 use Rattle.map_law.specs.Insertions.{AreaArgument, Insertion, insertAnswer}
 use Rattle.map_reading.specs.Rules.{countOutcome, ruleRead, rulePath}
-use Rattle.map_listing.specs.Listings.{listing}
+use Rattle.listing_law.specs.Listings.{listing}
 use Rattle.store_form.specs.Stores.{IsStore}
 use Rattle.store_form.specs.StoreTest.{storeRefusal}
 use Rattle.store_law.specs.Offers.{answerIn}

@@ -5,7 +5,7 @@ use native.Mathlib.Omega.{arith}
 use denote.Ref.{now}
 use Rattle.area.specs.LentAreas.{areaIn}
 use Rattle.map_form.specs.Maps.{rulesIn}
-use Rattle.map_listing.specs.Listings.{positions}
+use Rattle.listing_law.specs.Listings.{positions}
 use Rattle.map_listing.proofs.MeetingLaws.{positions-few, listed-short, listed-all}
 use Rattle.map_reading.proofs.RuleAtLaws.{rules-many, rules-few}
 use borrow.Author.Needs.{needs}

@@ -7,7 +7,7 @@ use Rattle.area_intersection.specs.Standing.{metOutcome}
 use Rattle.map_form.specs.Maps.{ruleIn}
 use Rattle.map_rules.specs.RulePlaces.{mapRow}
 use Rattle.map_rules.proofs.RowReadLaws.{part-long, part-counted, part-path, part-readable}
-use Rattle.map_listing.specs.Listings.{meets}
+use Rattle.listing_law.specs.Listings.{meets}
 use Rattle.map_reading.specs.Rules.{ruleAt}
 use Rattle.map_listing.proofs.MeetsLaws.{isAnswered, met-meets}
 use Rattle.map_reading.proofs.RuleAtLaws.{rule-at, area-whole}

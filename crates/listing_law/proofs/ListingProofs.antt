@@ -12,7 +12,7 @@ use Rattle.willow.specs.Areas.{Area, Triplet, InArea, IsAreaIntersection, areaI
 use Rattle.willow.specs.Lists.{In, Ascending}
 use Rattle.willow.proofs.AreaLaws.{areas-intersected}
 use Rattle.map_form.specs.Maps.{Rule}
-use Rattle.map_listing.specs.Listings.{isSome, meets, positionsFrom, positions, ListingTheorem}
+use Rattle.listing_law.specs.Listings.{isSome, meets, positionsFrom, positions, ListingTheorem}
 
 -- TWO AREAS MEET exactly if a triplet is in both.
 abbrev Common : Area → Area → Type 0

@@ -1,0 +1,2 @@
+pub mod ListingProofs
+pub mod ListingTableLaws
