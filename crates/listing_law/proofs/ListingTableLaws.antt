@@ -40,9 +40,9 @@ among rules x (some a) = positions (areaPassed x a) rules
 abbrev answerBy : List Rule → AreaArgument → Option Parts → Option Path → Outcome (List ℕ)
 answerBy rules x a q = unless (orElse (kindsMissing a) (pathMissing q)) (value (among rules x a))
 
-module _ (s : List ℕ) (z : MapSizes) (rules : List Rule) (x : AreaArgument) (bs : Bytes s) (m : IsMap s z rules) where
+module _ (s : List ℕ) (z : MapSizes) (rules : List Rule) (x : AreaArgument) (m : IsMap s z rules) where
   passed : isMap s ≡ true
-  passed = map-reading .passes s z rules bs m
+  passed = map-reading .passes s z rules m
 
   words : Words (z .limits)
   words = accepted-words (z .limits) (m .proper .limits-accepted)
@@ -136,6 +136,6 @@ refused-as-none s x bs absent-map = go (isMap s) refl
 
 pub listing-on-bytes : ListingOnBytes
 listing-on-bytes = record {
-  by-table = λ s z rules x bs bx m. tabled s z rules x bs m bx;
-  no-map = λ s x bs. (λ e z rules m. never-no-map s z rules x bs m e, refused-as-none s x bs);
+  by-table = λ s z rules x bx m. tabled s z rules x m bx;
+  no-map = λ s x bs. (λ e z rules m. never-no-map s z rules x m e, refused-as-none s x bs);
 }

@@ -35,7 +35,7 @@ pub record ListedByTable (z : MapSizes) (rules : List Rule) (x : AreaArgument) (
 -- For every map, whatever follows it in its buffer, and every area that is passed; and 2 exactly if no map's layout begins the buffer.
 -- The premises are what the types of the arguments say: bytes, as in empty buffers.
 pub record ListingOnBytes : Type 0 where
-  pub by-table : (s : List ℕ) (z : MapSizes) (rules : List Rule) (x : AreaArgument) → Bytes s → Bytes (x .buffer) → IsMap s z rules
+  pub by-table : (s : List ℕ) (z : MapSizes) (rules : List Rule) (x : AreaArgument) → Bytes (x .buffer) → IsMap s z rules
       → ListedByTable z rules x (listing s x)
   pub no-map : (s : List ℕ) (x : AreaArgument) → Bytes s
       → (listing s x ≡ refused BadSheet) ↔ ((z : MapSizes) (rules : List Rule) → IsMap s z rules → ⊥)

@@ -27,7 +27,7 @@ refused-exactly s bytes = (
 
 pub map-reading : MapReading
 map-reading = record {
-  passes = λ s z rules bytes m. passes s z rules m;
+  passes = passes;
   read = read;
   sizes-back = sizes-back;
   rules-back = rules-back;

@@ -57,7 +57,7 @@ mapRefusal s = cond (isMap s) none (some BadSheet)
 -- WHAT IT MEANS. Refusal 2 exactly if no proper map's layout begins the buffer; and where one does, reading gives it back. The
 -- premise is that a buffer holds bytes, as an empty one does.
 pub record MapReading : Type 0 where
-  pub passes : (s : List ℕ) (z : MapSizes) (rules : List Rule) → Bytes s → IsMap s z rules → isMap s ≡ true
+  pub passes : (s : List ℕ) (z : MapSizes) (rules : List Rule) → IsMap s z rules → isMap s ≡ true
   pub read : (s : List ℕ) → Bytes s → isMap s ≡ true → IsMap s (sizesIn s) (rulesIn s)
   pub sizes-back : (s : List ℕ) (z : MapSizes) (rules : List Rule) → IsMap s z rules → sizesIn s ≡ z
   pub rules-back : (s : List ℕ) (z : MapSizes) (rules : List Rule) → IsMap s z rules → rulesIn s ≡ rules

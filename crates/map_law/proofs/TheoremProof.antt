@@ -48,7 +48,7 @@ module _ (L : Limits) (N : ℕ) (a : Accepted L) (h : N ≤ maxCapacity) where
       ap (λ o. writtenBuffer o out) (sym (fresh-fine L N (limit-laws .limits-means L .1 a) (limit-laws .capacity-means N .1 h))) ∙ rw (b, l)
 
 pub map-theorem : MapTheorem
-map-theorem L N out xs a h bytes room w =
+map-theorem L N out xs a h room w =
     let z : MapSizes = sizes L N a h in
     let r = run z (drop (sheetLength (mapShape z)) out) xs w [] (writtenBuffer (freshMap L N) out) (fresh-proper L N a h) (fresh-bytes L N a h out room) in
     record { rules = r .last; leads = r .leads; bytes = r .bytes; within = r .within }

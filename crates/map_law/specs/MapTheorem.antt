@@ -1,7 +1,7 @@
 -- THE MAP'S THEOREM: what every list of insertions into a fresh map leaves, and what each of them is answered.
 use Prim.Native.Nat.{ℕ, _≤_, _<_}
 use mathlib.Core.Path.{_≡_}
-use mathlib.Core.Logic.{_⊎_, _↔_}
+use mathlib.Core.Logic.{_↔_}
 use mathlib.Core.List.{List, [], _∷_, _++_}
 use lib.ListN.{length, drop}
 use Rattle.willow.specs.declared.Limits.{Limits}
@@ -10,9 +10,9 @@ use Rattle.willow.specs.declared.AreaSubspace.the-variants.{Any, Id}
 use Rattle.willow.specs.Answers.{writtenBuffer}
 use Rattle.willow.specs.Areas.{Area}
 use Rattle.willow.specs.Ranges.{closed, endless}
+use Rattle.willow.specs.Kinds.{Says, GoodKind}
 use Rattle.willow.specs.Limits.{Accepted, maxCapacity}
 use Rattle.willow.specs.Lists.{All}
-use Rattle.willow.specs.Numbers.{Bytes}
 use Rattle.willow.specs.Packed.{Lent}
 use Rattle.willow.specs.Paths.{Path}
 use Rattle.willow.specs.Refusals.{Outcome, refused, absent, value}
@@ -31,17 +31,17 @@ answersTo s (x ∷ xs) = insertAnswer s x ∷ answersTo (insertLeaves s x) xs
 
 -- WHAT IS MEANT. The kinds of an area are 0 or 1, and it lends a path:
 abbrev pub GoodKinds : AreaArgument → Type 0
-GoodKinds x = ((x .kind ≡ 0) ⊎ (x .kind ≡ 1)) × ((x .endKind ≡ 0) ⊎ (x .endKind ≡ 1))
+GoodKinds x = GoodKind (x .kind) × GoodKind (x .endKind)
 
 abbrev pub LendsPath : MapSizes → AreaArgument → Type 0
 LendsPath z x = (p : Path) × Lent (z .limits) (x .buffer) (x .count) p
 
 -- .. and so the area that is passed: "end 0 open, 1 closed; subspace 0 any, 1 one id. A number .. passed beside kind 0 is not read";
 pub record Means (z : MapSizes) (x : AreaArgument) (a : Area) : Type 0 where
-  pub subspace : ((x .kind ≡ 0) × (a .subspace ≡ Any)) ⊎ ((x .kind ≡ 1) × (a .subspace ≡ Id (x .id)))
+  pub subspace : Says (x .kind) Any (Id (x .id)) (a .subspace)
   pub path : Lent (z .limits) (x .buffer) (x .count) (a .path)
   pub start : a .times .start ≡ x .start
-  pub end : ((x .endKind ≡ 0) × (a .times .end ≡ endless)) ⊎ ((x .endKind ≡ 1) × (a .times .end ≡ closed (x .end)))
+  pub end : Says (x .endKind) endless (closed (x .end)) (a .times .end)
 
 -- .. and the rule that an insertion passes.
 pub record Passes (z : MapSizes) (x : Insertion) (r : Rule) : Type 0 where
@@ -81,6 +81,6 @@ pub record MapAfter (z : MapSizes) (s : List ℕ) (out : List ℕ) (xs : List In
 -- For all accepted sizes, every buffer that is long enough, and every list of insertions with any arguments, from exactly what
 -- making a fresh map leaves. The premises are met by limits of 0, a capacity of 0 and a buffer of 40 zeros.
 abbrev pub MapTheorem : Type 0
-MapTheorem = (L : Limits) (N : ℕ) (out : List ℕ) (xs : List Insertion) → Accepted L → N ≤ maxCapacity → Bytes out
+MapTheorem = (L : Limits) (N : ℕ) (out : List ℕ) (xs : List Insertion) → Accepted L → N ≤ maxCapacity
     → sheetLength (mapShape (record { limits = L; capacity = N })) ≤ length out → All Passed xs
     → MapAfter (record { limits = L; capacity = N }) (writtenBuffer (freshMap L N) out) out xs

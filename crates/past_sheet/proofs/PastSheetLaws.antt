@@ -9,7 +9,6 @@ use lib.Dec.{ltb}
 use lib.ListN.{length, getD}
 use Rattle.willow.specs.declared.Refusal.the-variants.{BadSheet}
 use Rattle.willow.specs.Answers.{unless, orElse, lentRefusal}
-use Rattle.willow.specs.Numbers.{Bytes}
 use Rattle.willow.specs.Packed.{pack}
 use Rattle.willow.specs.Refusals.{absent, value}
 use Rattle.willow.specs.Store as state
@@ -29,9 +28,9 @@ use Rattle.store_reading.specs.Held.{numbersOf, entryOf, numbersRead, entryRead
 use Rattle.past_sheet.specs.PastSheet.{MapPastSheet, StorePastSheet}
 
 -- A MAP: its test, its sizes, its rules and their number.
-module _ (s t : List ℕ) (z : maps.MapSizes) (rules : List maps.Rule) (bs : Bytes s) (bt : Bytes t) (ms : maps.IsMap s z rules) (mt : maps.IsMap t z rules) where
+module _ (s t : List ℕ) (z : maps.MapSizes) (rules : List maps.Rule) (ms : maps.IsMap s z rules) (mt : maps.IsMap t z rules) where
   map-passes : isMap s ≡ isMap t
-  map-passes = map-reading .passes s z rules bs ms ∙ sym (map-reading .passes t z rules bt mt)
+  map-passes = map-reading .passes s z rules ms ∙ sym (map-reading .passes t z rules mt)
 
   map-tested : mapRefusal s ≡ mapRefusal t
   map-tested = ap (λ b. cond b none (some BadSheet)) map-passes
@@ -43,7 +42,7 @@ module _ (s t : List ℕ) (z : maps.MapSizes) (rules : List maps.Rule) (bs : Byt
   map-rules = map-reading .rules-back s z rules ms ∙ sym (map-reading .rules-back t z rules mt)
 
   map-count : maps.countIn s ≡ maps.countIn t
-  map-count = sym (rules-many s (map-reading .passes s z rules bs ms)) ∙ ap length map-rules ∙ rules-many t (map-reading .passes t z rules bt mt)
+  map-count = sym (rules-many s (map-reading .passes s z rules ms)) ∙ ap length map-rules ∙ rules-many t (map-reading .passes t z rules mt)
 
   -- Each answer is a function of these four.
   area-refused : (x : AreaArgument) → areaRefusal s x ≡ areaRefusal t x
@@ -79,19 +78,19 @@ module _ (s t : List ℕ) (z : maps.MapSizes) (rules : List maps.Rule) (bs : Byt
   map-path-read k = λ i. unless (map-tested i) (cond (ltb k (map-count i)) (value (pack (getD (map-rules i) k noRule .area .path))) absent)
 
 pub map-past-sheet : MapPastSheet
-map-past-sheet s t z rules bs bt ms mt = record {
-  tested = map-tested s t z rules bs bt ms mt;
-  inserted = map-inserted s t z rules bs bt ms mt;
-  listed = map-listed s t z rules bs bt ms mt;
-  counted = map-counted s t z rules bs bt ms mt;
-  rule-read = map-rule-read s t z rules bs bt ms mt;
-  path-read = map-path-read s t z rules bs bt ms mt;
+map-past-sheet s t z rules ms mt = record {
+  tested = map-tested s t z rules ms mt;
+  inserted = map-inserted s t z rules ms mt;
+  listed = map-listed s t z rules ms mt;
+  counted = map-counted s t z rules ms mt;
+  rule-read = map-rule-read s t z rules ms mt;
+  path-read = map-path-read s t z rules ms mt;
 }
 
 -- A STORE: its test, its sizes and its state.
-module _ (s t : List ℕ) (z : state.Sizes) (held : state.State) (bs : Bytes s) (bt : Bytes t) (ms : stores.IsStore s z held) (mt : stores.IsStore t z held) where
+module _ (s t : List ℕ) (z : state.Sizes) (held : state.State) (ms : stores.IsStore s z held) (mt : stores.IsStore t z held) where
   store-passes : isStore s ≡ isStore t
-  store-passes = store-reading .passes s z held bs ms ∙ sym (store-reading .passes t z held bt mt)
+  store-passes = store-reading .passes s z held ms ∙ sym (store-reading .passes t z held mt)
 
   store-tested : storeRefusal s ≡ storeRefusal t
   store-tested = ap (λ b. cond b none (some BadSheet)) store-passes
@@ -115,9 +114,9 @@ module _ (s t : List ℕ) (z : state.Sizes) (held : state.State) (bs : Bytes s) 
   store-entry k = λ i. unless (store-tested i) (entryOf (store-state i .entries) k)
 
 pub store-past-sheet : StorePastSheet
-store-past-sheet s t z held bs bt ms mt = record {
-  tested = store-tested s t z held bs bt ms mt;
-  offered = store-offered s t z held bs bt ms mt;
-  numbers-read = store-numbers s t z held bs bt ms mt;
-  entry-read = store-entry s t z held bs bt ms mt;
+store-past-sheet s t z held ms mt = record {
+  tested = store-tested s t z held ms mt;
+  offered = store-offered s t z held ms mt;
+  numbers-read = store-numbers s t z held ms mt;
+  entry-read = store-entry s t z held ms mt;
 }

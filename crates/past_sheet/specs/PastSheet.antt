@@ -4,7 +4,6 @@
 use Prim.Native.Nat.{ℕ}
 use mathlib.Core.Path.{_≡_}
 use mathlib.Core.List.{List}
-use Rattle.willow.specs.Numbers.{Bytes}
 use Rattle.willow.specs.Store.{Sizes, State, Call}
 use Rattle.map_form.specs.Maps.{MapSizes, Rule, IsMap}
 use Rattle.map_form.specs.MapTest.{mapRefusal}
@@ -26,7 +25,7 @@ pub record MapAnsweredAlike (s t : List ℕ) : Type 0 where
   pub path-read : (i : ℕ) → rulePath s i ≡ rulePath t i
 
 abbrev pub MapPastSheet : Type 0
-MapPastSheet = (s t : List ℕ) (z : MapSizes) (rules : List Rule) → Bytes s → Bytes t → IsMap s z rules → IsMap t z rules
+MapPastSheet = (s t : List ℕ) (z : MapSizes) (rules : List Rule) → IsMap s z rules → IsMap t z rules
     → MapAnsweredAlike s t
 
 -- OF A STORE: its test, an offer, and reading it.
@@ -37,5 +36,5 @@ pub record StoreAnsweredAlike (s t : List ℕ) : Type 0 where
   pub entry-read : (i : ℕ) → entryRead s i ≡ entryRead t i
 
 abbrev pub StorePastSheet : Type 0
-StorePastSheet = (s t : List ℕ) (z : Sizes) (held : State) → Bytes s → Bytes t → IsStore s z held → IsStore t z held
+StorePastSheet = (s t : List ℕ) (z : Sizes) (held : State) → IsStore s z held → IsStore t z held
     → StoreAnsweredAlike s t

@@ -1,8 +1,7 @@
 -- Ends and ranges of paths whose kinds come as numbers.
 use Prim.Native.Nat.{ℕ}
 use mathlib.Core.Option.{Option, none, some}
-use mathlib.Core.Bool.{cond}
-use lib.Dec.{eqb}
+use Rattle.willow.specs.Kinds.{ofKind}
 use Rattle.willow.specs.Refusals.{Outcome, refused, value}
 use Rattle.path_bounds.specs.declared.PathEnd.{PathEnd}
 use Rattle.path_bounds.specs.declared.PathEnd.the-variants.{Closed, Open}
@@ -16,7 +15,7 @@ use Rattle.path_kinds.specs.declared.RangesRead.the-variants as two
 
 -- "Kinds: end 0 open, 1 closed"; none where refusal 3 is due.
 unfoldable pub pathEndFrom : ℕ → ℕ → Option PathEnd
-pathEndFrom kind count = cond (eqb kind 0) (some Open) (cond (eqb kind 1) (some (Closed count)) none)
+pathEndFrom kind count = ofKind kind Open (Closed count)
 
 abbrev pub fromStart : ℕ → Option PathEnd → Option PathRange
 fromStart a none = none

@@ -241,7 +241,7 @@ refused s b = (
 
 pub store-reading : StoreReading
 store-reading = record {
-  passes = λ s z t b h. passed s z t h;
+  passes = passed;
   read = stored;
   sizes-back = λ s z t h. ap sizesIn (h .laid-out) ∙ sizes-read z t (h .rest) (h .proper);
   state-back = λ s z t h. ap stateIn (h .laid-out) ∙ state-read z t (h .rest) (h .proper);

@@ -56,7 +56,7 @@ storeRefusal s = cond (isStore s) none (some BadSheet)
 -- WHAT IT MEANS. Refusal 2 exactly if no proper store's layout begins the buffer; and where one does, reading gives it back. The
 -- premise is that a buffer holds bytes, as an empty one does.
 pub record StoreReading : Type 0 where
-  pub passes : (s : List ℕ) (z : Sizes) (t : State) → Bytes s → IsStore s z t → isStore s ≡ true
+  pub passes : (s : List ℕ) (z : Sizes) (t : State) → IsStore s z t → isStore s ≡ true
   pub read : (s : List ℕ) → Bytes s → isStore s ≡ true → IsStore s (sizesIn s) (stateIn s)
   pub sizes-back : (s : List ℕ) (z : Sizes) (t : State) → IsStore s z t → sizesIn s ≡ z
   pub state-back : (s : List ℕ) (z : Sizes) (t : State) → IsStore s z t → stateIn s ≡ t

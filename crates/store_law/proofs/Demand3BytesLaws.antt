@@ -13,13 +13,11 @@ use Rattle.willow.specs.Answers.{orElse, unless, limitsRefusal, writtenBuffer}
 use Rattle.willow.specs.Demand3.{grown, history, given, GivenBy, Answered, CallPassed, Within}
 use Rattle.willow.specs.Entries.{Entry}
 use Rattle.willow.specs.Lists.{All}
-use Rattle.willow.specs.Numbers.{Bytes}
 use Rattle.willow.specs.Refusals.{value}
 use Rattle.willow.specs.Store.{Sizes, State, fresh, Call, offer, Answer, refused, outdated, repeated, taken, isRefused, offered, answer, afterOffered, after, run, answers}
 use Rattle.willow.proofs.AnswerLaws.{accepted-words}
 use Rattle.willow.proofs.Demand3Laws.{demand3}
 use Rattle.willow.proofs.LimitLaws.{limit-laws}
-use Rattle.willow.proofs.NumberLaws.{bytes-drop}
 use Rattle.sheet.specs.Rows.{sheetLength}
 use Rattle.store_form.specs.Stores.{storeShape, storeLayout, sizesIn, stateIn}
 use Rattle.store_form.specs.StoreTest.{isStore}
@@ -46,12 +44,12 @@ fresh-laid z out a h =
     ap (λ o. writtenBuffer o out) (fresh-made z a) ∙ rw (m, le-leb (sheetLength (storeShape z)) (length out) h)
 
 -- A LIST OF CALLS.
-module _ (z : Sizes) (a : AcceptedSizes z) (rest : List ℕ) (b : Bytes rest) (base : ℕ) where
+module _ (z : Sizes) (a : AcceptedSizes z) (rest : List ℕ) (base : ℕ) where
   all-bytes : (cs : List Call) (t : State) (h : List Entry) → All CallPassed cs → Follows z base t h
       → bytesAfter (storeLayout z t ++ rest) cs ≡ storeLayout z (run z t cs) ++ rest
   all-bytes [] t h q f = refl
   all-bytes (c ∷ cs) t h q f =
-      ap (λ s. bytesAfter s cs) (laid-leaves z t rest (proper z base t h a f) b c)
+      ap (λ s. bytesAfter s cs) (laid-leaves z t rest (proper z base t h a f) c)
       ∙ all-bytes cs (after z t c) (grown z h c (answer z t c)) (q .1) (follows-step z base t h c a (q .0) f)
 
   all-answers : (cs : List Call) (t : State) (h : List Entry) → All CallPassed cs → Follows z base t h
@@ -59,20 +57,19 @@ module _ (z : Sizes) (a : AcceptedSizes z) (rest : List ℕ) (b : Bytes rest) (b
   all-answers [] t h q f = refl
   all-answers (c ∷ cs) t h q f =
       let p = proper z base t h a f in
-      let x = laid-answer z t rest p b c in
+      let x = laid-answer z t rest p c in
       let y =
-      ap (λ s. answersTo s cs) (laid-leaves z t rest p b c)
+      ap (λ s. answersTo s cs) (laid-leaves z t rest p c)
       ∙ all-answers cs (after z t c) (grown z h c (answer z t c)) (q .1) (follows-step z base t h c a (q .0) f) in
       λ i. x i ∷ y i
 
 pub demand3-on-bytes : Demand3OnBytes
-demand3-on-bytes z out cs l n m b h q =
+demand3-on-bytes z out cs l n m h q =
     let a : AcceptedSizes z = record { limits = l; capacity = n; namespace = m } in
     let rest : List ℕ = drop (sheetLength (storeShape z)) out in
-    let byte : Bytes rest = bytes-drop (sheetLength (storeShape z)) out b in
     let start = fresh-laid z out a h in
-    let bytes = ap (λ s. bytesAfter s cs) start ∙ all-bytes z a rest byte 0 cs fresh [] q (follows-fresh z) in
-    let said = ap (λ s. answersTo s cs) start ∙ all-answers z a rest byte 0 cs fresh [] q (follows-fresh z) in
+    let bytes = ap (λ s. bytesAfter s cs) start ∙ all-bytes z a rest 0 cs fresh [] q (follows-fresh z) in
+    let said = ap (λ s. answersTo s cs) start ∙ all-answers z a rest 0 cs fresh [] q (follows-fresh z) in
     let d = demand3 z cs (accepted-words (z .limits) l) q in
     record {
       bytes = bytes ∙ ap (λ t. storeLayout z t ++ rest) (d .state) ∙ ap (λ l. storeLayout z (given 0 (history z [] cs l)) ++ rest) (sym said);

@@ -60,7 +60,7 @@ pub record Demand3 (z : Sizes) (out : List ℕ) (cs : List Call) : Type 0 where
 -- are met by limits, capacity and namespace 0, a buffer of 64 zeros and no call.
 abbrev pub Demand3OnBytes : Type 0
 Demand3OnBytes = (z : Sizes) (out : List ℕ) (cs : List Call) → Accepted (z .limits) → z .capacity ≤ maxCapacity
-    → z .namespace ≤ maxWord → Bytes out → sheetLength (storeShape z) ≤ length out → All CallPassed cs → Demand3 z out cs
+    → z .namespace ≤ maxWord → sheetLength (storeShape z) ≤ length out → All CallPassed cs → Demand3 z out cs
 
 -- Beside it, for every buffer: "a refusal leaves all lent memory byte for byte as found".
 abbrev pub RefusedUnchanged : Type 0

@@ -76,11 +76,11 @@ pub passed-packed : (L : Limits) (b : List ℕ) → Words L → wellFormed L b �
 passed-packed L b w h = well-formed-wider L widest b (w .mcl-word) (w .mcc-word) (w .mpl-word) h
 
 -- WHAT THE QUESTIONS MEAN.
-limits-refused : (L : Limits) → (Accepted L → ⊥) → limitsRefusal L ≡ some BadLimits
+pub limits-refused : (L : Limits) → (Accepted L → ⊥) → limitsRefusal L ≡ some BadLimits
 unfolding limitsRefusal
 limits-refused L n = rw (decided-false (acceptedLimits L) (limit-laws .limits-means L) .1 n)
 
-limits-fine : (L : Limits) → Accepted L → limitsRefusal L ≡ none
+pub limits-fine : (L : Limits) → Accepted L → limitsRefusal L ≡ none
 unfolding limitsRefusal
 limits-fine L a = rw (limit-laws .limits-means L .1 a)
 

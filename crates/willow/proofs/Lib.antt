@@ -10,6 +10,7 @@ pub mod FilingLaws
 pub mod Demand3Laws
 pub mod MarkedCasesHold
 pub mod LimitLaws
+pub mod KindProofs
 pub mod RangeLaws
 pub mod AreaLaws
 pub mod Range3dLaws

@@ -12,6 +12,7 @@ use Rattle.willow.specs.declared.Limits.{Limits}
 use Rattle.willow.specs.declared.Order.{Order}
 use Rattle.willow.specs.declared.Order.the-variants.{Less, Equal, Greater}
 use Rattle.willow.specs.Entries.{Entry, Prunes, ValidEntry}
+use Rattle.willow.specs.Kinds.{ofKind}
 use Rattle.willow.specs.Limits.{maxWord}
 use Rattle.willow.specs.Orders.{isGreater, Total, compareNumbers, comparePairs}
 use Rattle.willow.specs.Paths.{Path, Valid, Prefix, isPrefixOf, isRelated, comparePaths}
@@ -47,7 +48,7 @@ subspaceValue (Id i) = i
 
 -- The subspaces that a kind with a number stands for; none where refusal 3 is due.
 unfoldable pub subspaceFrom : ℕ → ℕ → Option AreaSubspace
-subspaceFrom kind n = cond (eqb kind 0) (some Any) (cond (eqb kind 1) (some (Id n)) none)
+subspaceFrom kind n = ofKind kind Any (Id n)
 
 -- An area of numbers of 64 bits and a valid path, as every area that a call takes.
 abbrev pub SubspaceWord : AreaSubspace → Type 0

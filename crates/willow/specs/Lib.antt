@@ -8,6 +8,7 @@ pub mod Packed
 pub mod LeastPaths
 pub mod Construction
 pub mod Entries
+pub mod Kinds
 pub mod Ranges
 pub mod Areas
 pub mod Ranges3d

@@ -4,12 +4,12 @@ use mathlib.Core.Path.{_≡_}
 use mathlib.Core.Logic.{_⊎_, _↔_}
 use mathlib.Core.Option.{Option, none, some}
 use mathlib.Core.Bool.{Bool, true, _&&_, not, cond}
-use lib.Dec.{eqb}
 use Rattle.willow.specs.declared.Limits.{Limits}
 use Rattle.willow.specs.declared.Order.{Order}
 use Rattle.willow.specs.declared.Order.the-variants.{Less, Equal, Greater}
 use Rattle.willow.specs.declared.RangeEnd.{RangeEnd}
 use Rattle.willow.specs.declared.RangeEnd.the-variants.{Closed, Open}
+use Rattle.willow.specs.Kinds.{ofKind}
 use Rattle.willow.specs.Limits.{maxWord}
 use Rattle.willow.specs.Orders.{isLess, isGreater, Total, Decides, AtMost, compareNumbers, comparePairs, PairBelow}
 use Rattle.willow.specs.Paths.{Valid, PathBelow, comparePaths}
@@ -35,7 +35,7 @@ endValue endless = 0
 
 -- The end that a kind with a number stands for; none where refusal 3 is due.
 unfoldable pub endFrom : ℕ → ℕ → Option (End ℕ)
-endFrom kind n = cond (eqb kind 0) (some endless) (cond (eqb kind 1) (some (closed n)) none)
+endFrom kind n = ofKind kind endless (closed n)
 
 -- The code's ends of ranges of numbers, as ends.
 abbrev pub endOf : RangeEnd → End ℕ
