@@ -25,8 +25,7 @@ pub record MapAnsweredAlike (s t : List ℕ) : Type 0 where
   pub path-read : (i : ℕ) → rulePath s i ≡ rulePath t i
 
 abbrev pub MapPastSheet : Type 0
-MapPastSheet = (s t : List ℕ) (z : MapSizes) (rules : List Rule) → IsMap s z rules → IsMap t z rules
-    → MapAnsweredAlike s t
+MapPastSheet = (s t : List ℕ) (z : MapSizes) (rules : List Rule) → IsMap s z rules → IsMap t z rules → MapAnsweredAlike s t
 
 -- OF A STORE: its test, an offer, and reading it.
 pub record StoreAnsweredAlike (s t : List ℕ) : Type 0 where
@@ -36,5 +35,4 @@ pub record StoreAnsweredAlike (s t : List ℕ) : Type 0 where
   pub entry-read : (i : ℕ) → entryRead s i ≡ entryRead t i
 
 abbrev pub StorePastSheet : Type 0
-StorePastSheet = (s t : List ℕ) (z : Sizes) (held : State) → IsStore s z held → IsStore t z held
-    → StoreAnsweredAlike s t
+StorePastSheet = (s t : List ℕ) (z : Sizes) (held : State) → IsStore s z held → IsStore t z held → StoreAnsweredAlike s t
