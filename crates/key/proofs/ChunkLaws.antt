@@ -7,8 +7,8 @@ use native.Mathlib.Omega.{arith}
 use lib.ListN.{length, take, drop, length-drop, length-take}
 use Rattle.willow.specs.Limits.{maxWord}
 use Rattle.keyform.specs.Answering.{maxAnswer, Held, printedBy}
-use Rattle.keyline.specs.declared.inner.Fed.{Fed}
-use Rattle.keyline.specs.Held.{Feeds}
+use Rattle.keyinput.specs.declared.inner.Fed.{Fed}
+use Rattle.keyinput.specs.Held.{Feeds}
 
 module _ (h : Held) (chunk : List ℕ) (from : ℕ) (out : List ℕ) (r : Fed) (line′ out′ : List ℕ) (more : from < length chunk)
     (room : maxAnswer + 1 ≤ length out) (f : Feeds h (take (length chunk - from) (drop from chunk)) out r line′ out′) where

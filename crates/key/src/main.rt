@@ -1,15 +1,19 @@
 // The marking key: question lines from standard input, one answer a line to standard output. All that matters is in crate
-// `keyline`; this reads and writes. It runs in bounded memory, however long the input is. An interrupted read is made again; a
+// `keyinput`; this reads and writes. It runs in bounded memory, however long the input is. An interrupted read is made again; a
 // read or write that fails ends the program, and a line that was begun is then not answered.
 
-use keyline::inner;
-use keyline::inner::Pending;
+use keyask::inner::MAX_BYTES;
+use keyask::inner::MAX_PACKED;
+use keyask::inner::MAX_SIZES;
+use keyform::MAX_LINE;
+use keyinput::inner;
+use keyinput::inner::Pending;
 use libc::STDIN_FILENO;
 use libc::STDOUT_FILENO;
 ghost use Prim.Native.Nat.{_+_, _≤_};
 ghost use lib.ListN.{length};
 ghost use Rattle.keyform.specs.Answering.{maxAnswer};
-ghost use Rattle.keyline.specs.Held.{Fits, Scratch};
+ghost use Rattle.keyinput.specs.Held.{Fits, Scratch};
 
 // Whether there is more to read, and what is held of the line that has not ended.
 struct Went {
@@ -114,11 +118,11 @@ fn turn(
 
 // The count of turns is there so that the loop is seen to end: no input uses it up.
 fn main() {
-    let mut line = [0u8; 16384];
-    let mut lengths = [0u8; 65544];
-    let mut bytes = [0u8; 8192];
-    let mut packed = [0u8; 12296];
-    let mut next = [0u8; 12296];
+    let mut line = [0u8; MAX_LINE];
+    let mut lengths = [0u8; MAX_SIZES];
+    let mut bytes = [0u8; MAX_BYTES];
+    let mut packed = [0u8; MAX_PACKED];
+    let mut next = [0u8; MAX_PACKED];
     let mut out = [0u8; 65536];
     let mut s = inner::start();
     let mut turns = u64::MAX;

@@ -13,6 +13,14 @@ ghost use Rattle.keyform.specs.Reading.{readPath};
 ghost use Rattle.keyform.specs.Wording.{nextGreaterOf, successorOf};
 ghost use Rattle.keyask.specs.Found.{CountReadable, Finds, foundAs, madeOutcome, Rooms, textOutcome};
 
+// The room that every line's path needs: for the lengths of its components (`maxSizes`), for their bytes (`maxBytes`), and for a path
+// packed (`maxPacked`).
+pub const MAX_SIZES: usize = 65544;
+
+pub const MAX_BYTES: usize = 8192;
+
+pub const MAX_PACKED: usize = 12296;
+
 // What a question comes to: refused, none, or a path that stands packed at the front of a buffer, with its size and its count.
 pub enum Found {
     Refused(Refusal),

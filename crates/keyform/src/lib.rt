@@ -1,1 +1,9 @@
-// The form of key lines: definitions and theorems alone (specs/). Crate `keyline` has the functions.
+// The form of key lines: definitions and theorems (specs/), and the bounds that the functions of the crates above go by. What holds
+// a constant against its definition is the proof of each function that tests it or makes a buffer of it.
+
+// The most bytes in a line (`maxLine`), and in an answer without its newline (`maxAnswer`) and with it.
+pub const MAX_LINE: usize = 16384;
+
+pub const MAX_ANSWER: usize = 10240;
+
+pub const MAX_ENDED_ANSWER: usize = 10241;

@@ -23,7 +23,7 @@ use Rattle.keyform.specs.Answering.{maxAnswer, refusedText, outcomeText, lineOu
 use Rattle.keyform.specs.Texts.{newline, pathText}
 use Rattle.keyform.specs.Wording.{maxLine}
 use Rattle.keyform.proofs.AnsweringLaws.{answer-bound, refused-length}
-use Rattle.keyline.specs.Held.{foundText, FoundReadable}
+use Rattle.keyline.specs.Shown.{foundText, FoundReadable}
 
 -- BY CASES of what was found
 pub room-as : (f g : Found) (next : List ℕ) (to room : ℕ) → f ≡ g → FoundReadable f next × (to + length (foundText f next) ≤ room)

@@ -1,5 +1,6 @@
-// Key lines answered: one line at a time, and an input that comes in chunks (module `inner`, for the program `key`).
+// Key lines answered, one line at a time. Crate `keyinput` has an input of many lines.
 
+use keyform::MAX_ENDED_ANSWER;
 use willow::Counted;
 use willow::Refusal;
 ghost use mathlib.Core.Path.{_≡_};
@@ -14,7 +15,7 @@ pub fn answer(line: &[u8], out: &mut [u8]) -> Counted
     ensures { λ r. ⌜ countedOutcome r ≡ writtenLength (value (answerText (now (line .entry)))) (now (out .entry)) ⌝ }
     ensures { λ _. ⌜ now (out .exit) ≡ writtenBuffer (value (answerText (now (line .entry)))) (now (out .entry)) ⌝ }
 {
-    let mut held = [0u8; 10241];
+    let mut held = [0u8; MAX_ENDED_ANSWER];
     let n = inner::answer_any(line, &mut held);
     if out.len() < n {
         return Counted::Refused(Refusal::OutTooSmall);

@@ -6,15 +6,15 @@ use borrow.Author.Needs.{needs}
 use lib.ListN.{length}
 use Rattle.willow.specs.Limits.{maxWord}
 use Rattle.keyform.specs.Answering.{maxAnswer}
-use Rattle.keyline.specs.Held.{Scratch, Fits, heldIn}
-use Rattle.keyline.proofs.HeldLaws.{scratch-same}
+use Rattle.keyinput.specs.Held.{Scratch, Fits, heldIn}
+use Rattle.keyinput.proofs.HeldLaws.{scratch-same}
 use Rattle.key.proofs.ChunkLaws.{fed-within, fed-some, from-fits, still-within, less}
 use Rattle.key.proofs.answer_chunk.Statement.{statement}
 use Rattle.key.proofs.answer_chunk.Tie as tie
 use Rattle.key.proofs.answer_chunk.Reads as reads
 use Rattle.key.proofs.answer_chunk.Lts as lts
 use Rattle.io.proofs.write_all.Reads as write-all-reads
-use Rattle.keyline.proofs.inner.feed.Reads as feed-reads
+use Rattle.keyinput.proofs.inner.feed.Reads as feed-reads
 
 abbrev Inv-loop : tie.InvT-loop
 Inv-loop line₀ chunk lengths₀ bytes₀ packed₀ next₀ out₀ s₀ from₀ line lengths bytes packed next out s from =

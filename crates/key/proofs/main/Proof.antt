@@ -2,22 +2,24 @@
 use mathlib.Core.Path.{_≡_}
 use borrow.Author.Needs.{needs}
 use lib.ListN.{length}
-use Rattle.keyline.specs.Held.{Fits}
+use Rattle.keyask.specs.Found.{maxSizes, maxBytes, maxPacked}
+use Rattle.keyform.specs.Wording.{maxLine}
+use Rattle.keyinput.specs.Held.{Fits}
 use Rattle.key.proofs.main.Statement.{statement}
 use Rattle.key.proofs.main.Tie as tie
 use Rattle.key.proofs.main.Reads as reads
 use Rattle.key.proofs.main.Lts as lts
 use Rattle.key.proofs.turn.Reads as turn-reads
-use Rattle.keyline.proofs.inner.start.Reads as start-reads
+use Rattle.keyinput.proofs.inner.start.Reads as start-reads
 
 abbrev Inv-loop : tie.InvT-loop
 Inv-loop line₀ lengths₀ bytes₀ packed₀ next₀ out₀ s₀ turns₀ line lengths bytes packed next out s turns =
     Fits s line
-    × (length line ≡ 16384)
-    × (length lengths ≡ 65544)
-    × (length bytes ≡ 8192)
-    × (length packed ≡ 12296)
-    × (length next ≡ 12296)
+    × (length line ≡ maxLine)
+    × (length lengths ≡ maxSizes)
+    × (length bytes ≡ maxBytes)
+    × (length packed ≡ maxPacked)
+    × (length next ≡ maxPacked)
     × (length out ≡ 65536)
 
 abbrev μ-loop : tie.MeasureT-loop

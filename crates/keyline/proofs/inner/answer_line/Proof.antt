@@ -5,7 +5,7 @@ use lib.ListN.{length, set}
 use Rattle.number.specs.Overwriting.{overwrite}
 use Rattle.keyform.specs.Answering.{answerText, endedAnswer}
 use Rattle.keyform.proofs.AnsweringLaws.{answer-bound}
-use Rattle.keyline.specs.Held.{foundText}
+use Rattle.keyline.specs.Shown.{foundText}
 use Rattle.keyline.proofs.AnswerLaws.{answer-room, answer-shown, Shows, line-shown, newline-room, newline-place, newline-written, ended-is}
 use borrow.Author.Needs.{needs}
 use Rattle.keyline.proofs.inner.answer_line.Statement.{statement}

@@ -21,11 +21,11 @@ use Rattle.keyform.specs.Texts.{newline}
 use Rattle.keyform.specs.Wording.{maxLine}
 use Rattle.keyform.proofs.AnsweringLaws.{answer-bound, refused-length}
 use Rattle.keyform.proofs.PrintingLaws.{held-append, printed-append}
-use Rattle.keyline.specs.declared.inner.Fed.{Fed}
-use Rattle.keyline.specs.declared.inner.Pending.{Pending}
-use Rattle.keyline.specs.declared.inner.Step.{Step}
+use Rattle.keyinput.specs.declared.inner.Fed.{Fed}
+use Rattle.keyinput.specs.declared.inner.Pending.{Pending}
+use Rattle.keyinput.specs.declared.inner.Step.{Step}
 use Rattle.keyline.proofs.AnswerLaws.{ended-is}
-use Rattle.keyline.specs.Held.{Scratch, heldIn, Fits, Takes, Feeds}
+use Rattle.keyinput.specs.Held.{Scratch, heldIn, Fits, Takes, Feeds}
 
 -- BY THE FLAG
 pub held-long : (p : Pending) (line : List ℕ) → p .long ≡ true → heldIn p line ≡ overlong

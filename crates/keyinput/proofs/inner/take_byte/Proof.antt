@@ -1,13 +1,13 @@
 -- A newline ends the line that is held, another byte makes it longer.
-use Rattle.keyline.proofs.HeldLaws.{line-taken, byte-taken}
+use Rattle.keyinput.proofs.HeldLaws.{line-taken, byte-taken}
 use borrow.Author.Needs.{needs}
-use Rattle.keyline.proofs.inner.take_byte.Statement.{statement}
-use Rattle.keyline.proofs.inner.take_byte.Tie as tie
-use Rattle.keyline.proofs.inner.take_byte.Reads as reads
-use Rattle.keyline.proofs.inner.take_byte.Lts as lts
-use Rattle.keyline.proofs.inner.end_line.Reads as end-line-reads
-use Rattle.keyline.proofs.inner.push.Reads as push-reads
-use Rattle.keyline.proofs.inner.start.Reads as start-reads
+use Rattle.keyinput.proofs.inner.take_byte.Statement.{statement}
+use Rattle.keyinput.proofs.inner.take_byte.Tie as tie
+use Rattle.keyinput.proofs.inner.take_byte.Reads as reads
+use Rattle.keyinput.proofs.inner.take_byte.Lts as lts
+use Rattle.keyinput.proofs.inner.end_line.Reads as end-line-reads
+use Rattle.keyinput.proofs.inner.push.Reads as push-reads
+use Rattle.keyinput.proofs.inner.start.Reads as start-reads
 
 -- src/inner.rt:159:13
 end-line-requires : tie.Need-end-line-requires

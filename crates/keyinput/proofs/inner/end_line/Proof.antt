@@ -5,15 +5,15 @@ use lib.ListN.{length, set}
 use Rattle.willow.specs.declared.Refusal.the-variants.{BadKind}
 use Rattle.number.specs.Overwriting.{overwrite}
 use Rattle.keyform.specs.Answering.{refusedText, heldAnswer}
-use Rattle.keyline.specs.Held.{heldIn}
+use Rattle.keyinput.specs.Held.{heldIn}
 use Rattle.keyline.proofs.AnswerLaws.{answer-room, refused-bound, newline-room, newline-place, newline-written}
-use Rattle.keyline.proofs.HeldLaws.{long-ended, kept-ended, rooms-of}
+use Rattle.keyinput.proofs.HeldLaws.{long-ended, kept-ended, rooms-of}
 use borrow.Author.Needs.{needs}
-use Rattle.keyline.proofs.inner.end_line.Statement.{statement}
-use Rattle.keyline.proofs.inner.end_line.Tie as tie
-use Rattle.keyline.proofs.inner.end_line.Reads as reads
-use Rattle.keyline.proofs.inner.end_line.Lts as lts
+use Rattle.keyinput.proofs.inner.end_line.Statement.{statement}
+use Rattle.keyinput.proofs.inner.end_line.Tie as tie
+use Rattle.keyinput.proofs.inner.end_line.Reads as reads
+use Rattle.keyinput.proofs.inner.end_line.Lts as lts
 use Rattle.keyline.proofs.inner.answer_line.Reads as answer-line-reads
 use Rattle.keyshow.proofs.inner.put_refused.Reads as put-refused-reads
 
 place : (c : tie.After-put-refused) → c .put-refused .result < length (c .put-refused .last .1 .0)

@@ -1,34 +1,17 @@
--- What the functions that answer lines hold and write, in the words of crates `keyform` and `keyask`.
-use Prim.Native.Nat.{ℕ, _+_, _≤_, _<_}
-use mathlib.Core.Bool.{Bool, cond}
+-- What the functions that answer an input hold and write, in the words of crates `keyform` and `keyask`.
+use Prim.Native.Nat.{ℕ, _+_, _≤_}
+use mathlib.Core.Bool.{cond}
 use mathlib.Core.List.{List}
 use mathlib.Core.Logic.{_⊎_}
 use mathlib.Core.Path.{_≡_}
 use lib.ListN.{length, take}
-use Rattle.packed.specs.Readable.{Readable}
-use Rattle.willow.specs.Answers.{pathIn}
 use Rattle.number.specs.Overwriting.{overwrite}
-use Rattle.keyask.specs.declared.inner.Found.{Found}
-use Rattle.keyask.specs.declared.inner.Found.the-variants as found
 use Rattle.keyask.specs.Found.{maxSizes, maxBytes, maxPacked}
-use Rattle.keyform.specs.Answering.{maxAnswer, refusedText, Held, kept, overlong, heldAfter, printedBy}
-use Rattle.keyform.specs.Texts.{text, pathText}
+use Rattle.keyform.specs.Answering.{maxAnswer, Held, kept, overlong, heldAfter, printedBy}
 use Rattle.keyform.specs.Wording.{maxLine}
-use Rattle.keyline.specs.declared.inner.Fed.{Fed}
-use Rattle.keyline.specs.declared.inner.Pending.{Pending}
-use Rattle.keyline.specs.declared.inner.Step.{Step}
-
--- The text of what was found, its path read from the buffer where it stands.
-abbrev pub foundText : Found → List ℕ → List ℕ
-foundText (found.Refused r) buffer = refusedText r
-foundText found.Nothing buffer = text "none"
-foundText (found.Path size count) buffer = pathText (pathIn (take size buffer) count)
-
--- What reading it takes for granted.
-abbrev pub FoundReadable : Found → List ℕ → Type 0
-FoundReadable (found.Refused r) buffer = Unit {0}
-FoundReadable found.Nothing buffer = Unit {0}
-FoundReadable (found.Path size count) buffer = (size ≤ length buffer) × Readable (take size buffer) count
+use Rattle.keyinput.specs.declared.inner.Fed.{Fed}
+use Rattle.keyinput.specs.declared.inner.Pending.{Pending}
+use Rattle.keyinput.specs.declared.inner.Step.{Step}
 
 -- The buffers that lines are answered in, whatever the line.
 pub record Scratch (lengths bytes packed next : List ℕ) : Type 0 where

@@ -7,14 +7,14 @@ use borrow.Author.Needs.{needs}
 use lib.ListN.{length, take}
 use Rattle.willow.specs.Limits.{maxWord}
 use Rattle.keyform.specs.Answering.{maxAnswer}
-use Rattle.keyline.specs.Held.{Scratch, heldIn, Takes}
-use Rattle.keyline.proofs.HeldLaws.{feed-start, feed-again, room-for, place-fits, place-next, scratch-same, stopped-at, goes}
-use Rattle.keyline.proofs.inner.feed.Statement.{statement}
-use Rattle.keyline.proofs.inner.feed.Tie as tie
-use Rattle.keyline.proofs.inner.feed.Reads as reads
-use Rattle.keyline.proofs.inner.feed.Lts as lts
-use Rattle.keyline.proofs.inner.goes_on.Reads as goes-on-reads
-use Rattle.keyline.proofs.inner.take_byte.Reads as take-byte-reads
+use Rattle.keyinput.specs.Held.{Scratch, heldIn, Takes}
+use Rattle.keyinput.proofs.HeldLaws.{feed-start, feed-again, room-for, place-fits, place-next, scratch-same, stopped-at, goes}
+use Rattle.keyinput.proofs.inner.feed.Statement.{statement}
+use Rattle.keyinput.proofs.inner.feed.Tie as tie
+use Rattle.keyinput.proofs.inner.feed.Reads as reads
+use Rattle.keyinput.proofs.inner.feed.Lts as lts
+use Rattle.keyinput.proofs.inner.goes_on.Reads as goes-on-reads
+use Rattle.keyinput.proofs.inner.take_byte.Reads as take-byte-reads
 
 abbrev Inv-loop : tie.InvT-loop
 Inv-loop line₀ chunk lengths₀ bytes₀ packed₀ next₀ out₀ s₀ i₀ at₀ line lengths bytes packed next out s i at =

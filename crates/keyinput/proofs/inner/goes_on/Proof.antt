@@ -1,10 +1,10 @@
 -- Each return is one test.
 use mathlib.Core.Path.{sym}
-use Rattle.keyline.proofs.HeldLaws.{goes-chunk-over, goes-by-room}
-use Rattle.keyline.proofs.inner.goes_on.Statement.{statement}
-use Rattle.keyline.proofs.inner.goes_on.Tie as tie
-use Rattle.keyline.proofs.inner.goes_on.Reads as reads
-use Rattle.keyline.proofs.inner.goes_on.Lts as lts
+use Rattle.keyinput.proofs.HeldLaws.{goes-chunk-over, goes-by-room}
+use Rattle.keyinput.proofs.inner.goes_on.Statement.{statement}
+use Rattle.keyinput.proofs.inner.goes_on.Tie as tie
+use Rattle.keyinput.proofs.inner.goes_on.Reads as reads
+use Rattle.keyinput.proofs.inner.goes_on.Lts as lts
 
 -- src/inner.rt:176:9
 returns : tie.Need-returns

@@ -3,13 +3,13 @@ use mathlib.Core.Path.{sym, _∙_, ap}
 use lib.ListN.{length}
 use Rattle.number.specs.Overwriting.{overwrite}
 use Rattle.number.proofs.OverwritingLaws.{overwrite-nil}
-use Rattle.keyline.proofs.HeldLaws.{end-empty, end-long, end-kept, from-zero}
+use Rattle.keyinput.proofs.HeldLaws.{end-empty, end-long, end-kept, from-zero}
 use borrow.Author.Needs.{needs}
-use Rattle.keyline.proofs.inner.finish.Statement.{statement}
-use Rattle.keyline.proofs.inner.finish.Tie as tie
-use Rattle.keyline.proofs.inner.finish.Reads as reads
-use Rattle.keyline.proofs.inner.finish.Lts as lts
-use Rattle.keyline.proofs.inner.end_line.Reads as end-line-reads
+use Rattle.keyinput.proofs.inner.finish.Statement.{statement}
+use Rattle.keyinput.proofs.inner.finish.Tie as tie
+use Rattle.keyinput.proofs.inner.finish.Reads as reads
+use Rattle.keyinput.proofs.inner.finish.Lts as lts
+use Rattle.keyinput.proofs.inner.end_line.Reads as end-line-reads
 
 -- src/inner.rt:170:9
 end-line-requires : tie.Need-end-line-requires

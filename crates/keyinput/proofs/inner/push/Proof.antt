@@ -1,10 +1,10 @@
 -- A line that is not full takes the byte; of a full one only that it is too long is kept.
-use Rattle.keyline.proofs.HeldLaws.{pushed, pushed-fits, full, full-fits}
+use Rattle.keyinput.proofs.HeldLaws.{pushed, pushed-fits, full, full-fits}
 use borrow.Author.Needs.{needs}
-use Rattle.keyline.proofs.inner.push.Statement.{statement}
-use Rattle.keyline.proofs.inner.push.Tie as tie
-use Rattle.keyline.proofs.inner.push.Reads as reads
-use Rattle.keyline.proofs.inner.push.Lts as lts
+use Rattle.keyinput.proofs.inner.push.Statement.{statement}
+use Rattle.keyinput.proofs.inner.push.Tie as tie
+use Rattle.keyinput.proofs.inner.push.Reads as reads
+use Rattle.keyinput.proofs.inner.push.Lts as lts
 
 -- src/inner.rt:107:9
 slice-write-line : tie.Need-slice-write-line
