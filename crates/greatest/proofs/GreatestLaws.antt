@@ -86,14 +86,6 @@ module _ (mcl left mpl sum : ℕ) where
   pub lengths-end : (out : List ℕ) (at : ℕ) → left ≤ 0 → overwrite out at (accumulated sum (filled mcl left (mpl - sum))) ≡ out
   lengths-end out at h = let z : left ≡ 0 = omega arith in rw z (overwrite-nil out at)
 
--- THE BYTES: one, and then those behind it.
-pub fill-turn : (s : List ℕ) (at n j : ℕ) → j < n → at + n ≤ length s
-    → overwrite (set s (at + j) 255) (at + (j + 1)) (replicate (n - (j + 1)) 255) ≡ overwrite s (at + j) (replicate (n - j) 255)
-fill-turn s at n j h f =
-    let p : at + (j + 1) ≡ at + j + 1 = omega arith in
-    let m : n - j ≡ suc (n - (j + 1)) = omega arith in
-    rw (p, m, store-overwrite s (at + j) 255 (omega arith)) (overwrite-append s (at + j) (255 ∷ []) (replicate (n - (j + 1)) 255) (omega arith))
-
 -- THE LIMITS.
 pub limits-refused : (L : Limits) → acceptedLimits L ≡ false → refused BadLimits ≡ greatestOutcome L
 unfolding underLimits limitsRefusal

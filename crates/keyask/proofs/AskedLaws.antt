@@ -6,7 +6,6 @@ use mathlib.Core.Option.{Option, none, some}
 use mathlib.Core.Path.{_≡_, refl, sym, _∙_, ap, subst}
 use native.Mathlib.Omega.{arith}
 use lib.ListN.{length, take, drop}
-use lib.Seq.{take-at}
 use Rattle.willow.specs.declared.Counted.{Counted}
 use Rattle.willow.specs.declared.Limits.{Limits}
 use Rattle.willow.specs.declared.Refusal.{Refusal}
@@ -21,7 +20,7 @@ use Rattle.willow.specs.Paths.{Path, pathLength}
 use Rattle.willow.specs.Refusals.{Outcome, refused, absent, value}
 use Rattle.willow.proofs.PackedLaws.{joined-length}
 use Rattle.number.specs.Overwriting.{overwrite}
-use Rattle.number.proofs.OverwritingLaws.{overwrite-at-front, length-overwrite}
+use Rattle.number.proofs.OverwritingLaws.{front-written, length-overwrite}
 use Rattle.construction.specs.Making.{underLimits, slicesOutcome}
 use Rattle.least.specs.Places as least
 use Rattle.keyform.specs.Answering.{onMade, readOutcome}
@@ -48,11 +47,6 @@ pub record SlicesRead (s lengths bytes : List ℕ) (k n : ℕ) : Type 0 where
   pub each-byte : All Bytes path
   pub word : pathLength path ≤ maxWord
 
-front-part : (old v : List ℕ) (n : ℕ) → n ≡ length v → take (n - 0) (overwrite old 0 v) ≡ v
-front-part old v n e =
-    let z : length v ≡ n - 0 = omega arith in
-    ap (take (n - 0)) (overwrite-at-front old v) ∙ take-at v (drop (length v) old) (n - 0) z
-
 pub slices-read : (s lengths₀ bytes₀ lengths bytes : List ℕ) (k n : ℕ) (r : Slices) → PathRead (readPath s) lengths₀ bytes₀ r lengths bytes
     → r ≡ slices.Read k n → length bytes₀ ≤ maxWord → SlicesRead s lengths bytes k n
 slices-read s lengths₀ bytes₀ lengths bytes k n r h e w = go (subst (λ x. PathRead (readPath s) lengths₀ bytes₀ x lengths bytes) e h)
@@ -66,8 +60,8 @@ slices-read s lengths₀ bytes₀ lengths bytes k n r h e w = go (subst (λ x. P
         record {
           path = p;
           read = read;
-          lengths-part = rw l (front-part lengths₀ (sizes p) (8 * k) (omega arith));
-          bytes-part = rw b (front-part bytes₀ (joined p) n (omega arith));
+          lengths-part = rw l (front-written lengths₀ (sizes p) (8 * k - 0) (omega arith));
+          bytes-part = rw b (front-written bytes₀ (joined p) (n - 0) (omega arith));
           lengths-within = omega arith;
           bytes-within = omega arith;
           each-byte = path-written s p read .1;

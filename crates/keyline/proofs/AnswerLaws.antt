@@ -14,7 +14,7 @@ use Rattle.willow.specs.Answers.{pathIn, writtenLength, writtenBuffer}
 use Rattle.willow.specs.Paths.{Path}
 use Rattle.willow.specs.Refusals.{Outcome, refused, absent, value}
 use Rattle.number.specs.Overwriting.{overwrite}
-use Rattle.number.proofs.OverwritingLaws.{length-overwrite, overwrite-at-front, store-overwrite, written-on}
+use Rattle.number.proofs.OverwritingLaws.{length-overwrite, overwrite-at-front, front-written, store-overwrite, written-on}
 use Rattle.keyask.specs.declared.inner.Found.{Found}
 use Rattle.keyask.specs.declared.inner.Found.the-variants as found
 use Rattle.keyask.specs.Found.{Finds}
@@ -99,9 +99,6 @@ pub long-answer : (line : List ℕ) → maxLine < length line → refusedText Ba
 unfolding answerText lineOutcome
 long-answer line h = rw (lt-leb (length line) maxLine h)
 
-pub front-text : (out text : List ℕ) → length text ≤ length out → take (length text) (overwrite out 0 text) ≡ text
-front-text out text h = ap (take (length text)) (overwrite-at-front out text) ∙ take-at text (drop (length text) out) (length text) refl
-
 pub refused-bound : (r : Refusal) → length (refusedText r) ≤ maxAnswer
 refused-bound r = let b = refused-length r in omega arith
 
@@ -111,7 +108,7 @@ pub refused-front : (line out : List ℕ) (n : ℕ) (new : List ℕ) → maxLine
 refused-front line out n new long room e w =
     let b = refused-bound BadKind in
     let z : n ≡ length (refusedText BadKind) = omega arith in
-    (omega arith, z ∙ ap length (long-answer line long), rw (w, z) (front-text out (refusedText BadKind) (omega arith) ∙ long-answer line long))
+    (omega arith, z ∙ ap length (long-answer line long), rw (w, z) (front-written out (refusedText BadKind) _ refl ∙ long-answer line long))
 
 pub answer-front : (line out : List ℕ) (n : ℕ) (new : List ℕ) → maxAnswer + 1 ≤ length out → n ≡ 0 + length (endedAnswer line) → new ≡ overwrite out 0 (endedAnswer line)
     → (1 ≤ n) × (n - 1 ≤ length out) × (n - 1 ≡ length (answerText line)) × (take (n - 1) new ≡ answerText line)

@@ -7,8 +7,8 @@ use mathlib.Core.Path.{_≡_, refl, sym, _∙_, ap}
 use native.Mathlib.Nat.{pow-le-pow-right}
 use native.Mathlib.Omega.{arith}
 use lib.Dec.{eqb, leb, ltb}
-use lib.ListN.{length, drop, getD}
-use lib.Seq.{drop-cons, drop-drop, drop-length, drop-nil}
+use lib.ListN.{length, drop, getD, drop-of-length-le}
+use lib.Seq.{drop-cons}
 use borrow.Author.Tests.{leb-true, le-leb, lt-leb, lt-ltb, le-ltb, eq-eqb, ne-eqb}
 use Rattle.willow.proofs.Bools.{both-true}
 use Rattle.keyform.specs.Reading.{Field, fieldFrom, isDigit, hexValue}
@@ -61,13 +61,8 @@ module _ (s : List ℕ) (i left v b : ℕ) (within : i < length s) (here : b ≡
   field-other n d = ap (fieldFrom left v) front ∙ rw (ne-eqb b space n, d)
 
 -- nothing stands behind the last
-pub drop-all : {A : Type 0} (s : List A) (n : ℕ) → length s ≤ n → drop n s ≡ []
-drop-all s n h =
-    let e : length s + (n - length s) ≡ n = omega arith in
-    ap (λ k. drop k s) (sym e) ∙ sym (drop-drop (n - length s) (length s) s) ∙ ap (drop (n - length s)) (drop-length s) ∙ drop-nil (n - length s)
-
 pub field-unended : (s : List ℕ) (i left v : ℕ) → length s ≤ i → fieldFrom left v (drop i s) ≡ none
-field-unended s i left v h = ap (fieldFrom left v) (drop-all s i h)
+field-unended s i left v h = ap (fieldFrom left v) (drop-of-length-le s h)
 
 -- a number of so many digits, and one digit more
 pub digits-more : (left v d : ℕ) → 0 < left → left ≤ 10 → v < 10 ^ (10 - left) → d < 10 → 10 * v + d < 10 ^ (10 - (left - 1))

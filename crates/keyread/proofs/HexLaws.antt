@@ -5,13 +5,12 @@ use mathlib.Core.List.{List, [], _∷_, _++_, append-assoc, append-nil}
 use mathlib.Core.Option.{Option, none, some}
 use mathlib.Core.Path.{_≡_, refl, sym, _∙_, ap}
 use native.Mathlib.Omega.{arith}
-use lib.ListN.{length, drop, getD, set, length-append}
+use lib.ListN.{length, drop, getD, set, length-append, drop-of-length-le}
 use lib.Seq.{drop-cons}
 use borrow.Author.Tests.{lt-ltb, le-ltb}
 use Rattle.number.specs.Overwriting.{overwrite}
 use Rattle.number.proofs.OverwritingLaws.{overwrite-nil, store-overwrite, written-on, length-overwrite}
 use Rattle.keyform.specs.Reading.{hexValue, before, readHex}
-use Rattle.keyread.proofs.DigitLaws.{drop-all}
 
 -- A list before one that there may not be.
 abbrev pub allBefore : {A : Type 0} → List A → Option (List A) → Option (List A)
@@ -57,7 +56,7 @@ module _ (s : List ℕ) (i : ℕ) where
   pub hex-odd : i < length s → length s - i < 2 → readHex (drop i s) ≡ none
   hex-odd h k =
       let e : length s ≤ suc i = omega arith in
-      ap readHex (drop-cons s i 0 h ∙ ap (λ l. getD s i 0 ∷ l) (drop-all s (suc i) e))
+      ap readHex (drop-cons s i 0 h ∙ ap (λ l. getD s i 0 ∷ l) (drop-of-length-le s e))
 
   module _ (high low : ℕ) (more : i + 1 < length s) (eh : high ≡ hexValue (getD s i 0)) (el : low ≡ hexValue (getD s (i + 1) 0)) where
     pub hex-no-high : 15 < high → readHex (drop i s) ≡ none
@@ -104,4 +103,4 @@ module _ (s out₀ : List ℕ) (to : ℕ) (out : List ℕ) (i at : ℕ) (v : Lis
       }
 
   pub hex-end : length s ≤ i → readHex s ≡ some v
-  hex-end h = sym (f .left-to-read) ∙ ap (λ l. allBefore v (readHex l)) (drop-all s i h) ∙ ap some (append-nil v)
+  hex-end h = sym (f .left-to-read) ∙ ap (λ l. allBefore v (readHex l)) (drop-of-length-le s h) ∙ ap some (append-nil v)

@@ -28,7 +28,6 @@ use Rattle.keyread.specs.Parts.{HexRead, piecesAt, ComponentRead, PathRe
 use Rattle.keyread.specs.declared.inner.Piece.the-variants as piece
 use Rattle.keyread.specs.declared.inner.Piece.{Piece}
 use Rattle.keyread.specs.declared.inner.Slices.the-variants as slices
-use Rattle.keyread.proofs.DigitLaws.{drop-all}
 use Rattle.keyread.proofs.HexLaws.{allBefore, all-before-nil, all-before-one}
 
 -- THE DASH AND (), by their tests

@@ -6,7 +6,7 @@ use mathlib.Core.Option.{Option, none, some}
 use mathlib.Core.Path.{_≡_, refl, sym, _∙_, ap}
 use native.Mathlib.Omega.{arith}
 use lib.Dec.{eqb}
-use lib.ListN.{length, drop, getD}
+use lib.ListN.{length, drop, getD, drop-of-length-le}
 use lib.Seq.{drop-cons}
 use borrow.Author.Tests.{eq-eqb, ne-eqb}
 use Rattle.keyform.specs.Reading.{asks, readField, readLine, readPath, readQuestion, withQuestion}
@@ -15,7 +15,6 @@ use Rattle.keyform.specs.Wording.{Question, successorOf, nextGreaterOf, greates
 use Rattle.keyread.specs.declared.inner.Field as code-field
 use Rattle.keyread.specs.declared.inner.Field.the-variants as field
 use Rattle.keyread.specs.Parts.{fieldRead}
-use Rattle.keyread.proofs.DigitLaws.{drop-all}
 
 -- no way of two leads to a question
 no-way : (a b : Bool) → cond {A = Option Question} a none (cond b none none) ≡ none
@@ -24,14 +23,14 @@ no-way false true = refl
 no-way false false = refl
 
 pub question-unasked : (s : List ℕ) (at : ℕ) → length s ≤ at → readQuestion (drop at s) ≡ none
-question-unasked s at h = ap readQuestion (drop-all s at h)
+question-unasked s at h = ap readQuestion (drop-of-length-le s h)
 
 module _ (s : List ℕ) (at : ℕ) (within : at < length s) where
   letter : drop at s ≡ getD s at 0 ∷ drop (suc at) s
   letter = drop-cons s at 0 within
 
   alone-here : length s - at ≡ 1 → drop at s ≡ getD s at 0 ∷ []
-  alone-here e = letter ∙ ap (λ l. getD s at 0 ∷ l) (drop-all s (suc at) (omega arith))
+  alone-here e = letter ∙ ap (λ l. getD s at 0 ∷ l) (drop-of-length-le s {i = suc at} (omega arith))
 
   with-next : (length s - at ≡ 1 → ⊥) → drop at s ≡ getD s at 0 ∷ getD s (at + 1) 0 ∷ drop (at + 2) s
   with-next n =

@@ -6,9 +6,9 @@ use mathlib.Core.List.{List, [], _∷_, _++_}
 use native.Mathlib.Omega.{arith}
 use native.Mathlib.Numerals.{add-one}
 use lib.Dec.{eqb}
-use lib.ListN.{length, take, drop, getD, set, length-take, length-drop, drop-of-length-le}
+use lib.ListN.{length, take, drop, getD, set, replicate, length-take, length-drop, drop-of-length-le}
 use lib.Seq.{take-suc, take-suc-set, drop-set-lt, drop-cons, getD-drop}
-use Rattle.number.specs.Overwriting.{overwrite, zeros, allZero}
+use Rattle.number.specs.Overwriting.{overwrite, allZero}
 use Rattle.number.proofs.OverwritingLaws.{store-overwrite, part-before, overwrite-append, overwrite-commute}
 
 module _ {A : Type 0} where
@@ -69,13 +69,13 @@ module _ {A : Type 0} (d : A) where
       rw (others, part-last s from left h (omega arith), k)
       (store-last s to xs v (omega arith))
 
--- CLEARING.
-pub zero-turn : (s : List ℕ) (at n j : ℕ) → j < n → at + n ≤ length s
-    → overwrite (set s (at + j) 0) (at + (j + 1)) (zeros (n - (j + 1))) ≡ overwrite s (at + j) (zeros (n - j))
-zero-turn s at n j h f =
+-- FILLING with one value, and so clearing: one element, and then those behind it.
+pub fill-turn : {A : Type 0} (v : A) (s : List A) (at n j : ℕ) → j < n → at + n ≤ length s
+    → overwrite (set s (at + j) v) (at + (j + 1)) (replicate (n - (j + 1)) v) ≡ overwrite s (at + j) (replicate (n - j) v)
+fill-turn v s at n j h f =
     let p : at + (j + 1) ≡ at + j + 1 = omega arith in
     let m : n - j ≡ suc (n - (j + 1)) = omega arith in
-    rw (p, m) (store-first s (at + j) 0 (zeros (n - (j + 1))) (omega arith))
+    rw (p, m) (store-first s (at + j) v (replicate (n - (j + 1)) v) (omega arith))
 
 -- TESTING: what was known, this byte, and the rest.
 pub test-turn : (ok : Bool) (s : List ℕ) (i : ℕ) → i < length s

@@ -75,6 +75,10 @@ module _ {A : Type 0} where
   unfolding overwrite
   overwrite-at-front s vs = let z : 0 + length vs ≡ length vs = omega arith in rw z
 
+  -- what was written to the front is the front
+  pub front-written : (s vs : List A) (n : ℕ) → n ≡ length vs → take n (overwrite s 0 vs) ≡ vs
+  front-written s vs n e = ap (take n) (overwrite-at-front s vs) ∙ take-at vs (drop (length vs) s) n (sym e)
+
   -- nothing is written; all is written; what stands there is written
   pub overwrite-nil : (s : List A) (at : ℕ) → overwrite s at [] ≡ s
   unfolding overwrite

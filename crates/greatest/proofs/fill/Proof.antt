@@ -6,7 +6,7 @@ use lib.ListN.{length, length-set, replicate}
 use borrow.Author.Needs.{needs}
 use Rattle.number.specs.Overwriting.{overwrite}
 use Rattle.number.proofs.OverwritingLaws.{overwrite-nil}
-use Rattle.greatest.proofs.GreatestLaws.{fill-turn}
+use Rattle.number.proofs.LoopLaws.{fill-turn}
 use Rattle.greatest.proofs.fill.Statement.{statement}
 use Rattle.greatest.proofs.fill.Tie as tie
 
@@ -37,7 +37,7 @@ loop-less c = search needs
 loop-again : tie.Need-loop-again Inv-loop μ-loop
 loop-again c =
     let b = c .before .loop in
-    (omega arith, simp length-set (omega arith), fill-turn (b .out) _ _ (b .j) (c .loop-test .taken) (omega arith) ∙ b .inv .2)
+    (omega arith, simp length-set (omega arith), fill-turn 255 (b .out) _ _ (b .j) (c .loop-test .taken) (omega arith) ∙ b .inv .2)
 
 same-length : tie.Need-same-length Inv-loop μ-loop
 same-length c = omega arith

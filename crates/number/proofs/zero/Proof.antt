@@ -6,7 +6,7 @@ use lib.ListN.{length, length-set}
 use borrow.Author.Needs.{needs}
 use Rattle.number.specs.Overwriting.{overwrite, zeros}
 use Rattle.number.proofs.OverwritingLaws.{overwrite-nil}
-use Rattle.number.proofs.LoopLaws.{zero-turn}
+use Rattle.number.proofs.LoopLaws.{fill-turn}
 use Rattle.number.proofs.zero.Statement.{statement}
 use Rattle.number.proofs.zero.Tie as tie
 
@@ -37,7 +37,7 @@ loop-less c = search needs
 loop-again : tie.Need-loop-again Inv-loop μ-loop
 loop-again c =
     let b = c .before .loop in
-    (omega arith, simp length-set (omega arith), zero-turn (b .s) _ _ (b .j) (c .loop-test .taken) (omega arith) ∙ b .inv .2)
+    (omega arith, simp length-set (omega arith), fill-turn 0 (b .s) _ _ (b .j) (c .loop-test .taken) (omega arith) ∙ b .inv .2)
 
 same-length : tie.Need-same-length Inv-loop μ-loop
 same-length c = omega arith
