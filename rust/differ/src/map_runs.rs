@@ -253,19 +253,13 @@ pub fn read_back(map: &Map, sheet: &[u8], t: &mut Tally) {
     }
 }
 
-/// What was said of bytes that may be no map.
-fn of_bytes(bytes: &[u8], call: &str, said: String) -> Input {
-    let text = format!("{call} of {bytes:02x?}: {said}");
-    Input::new(Limits::new(0, 0, 0), bytes.len(), text)
-}
-
 /// Bytes that may be no map: every call against the model of the layout.
 pub fn damaged(bytes: &[u8], area: &Area, t: &mut Tally) {
     let model = Map::read(bytes);
     let now = plain::map_test(Guarded::of(bytes).lent());
     let expected = if model.is_some() { 0 } else { 2 };
     t.same("damaged: map test", now == expected, || {
-        of_bytes(bytes, "test", format!("{now}"))
+        Input::of_bytes(bytes, "test", format!("{now}"))
     });
     match model {
         Some(map) => still_a_map(map, bytes, area, t),
@@ -277,7 +271,9 @@ pub fn damaged(bytes: &[u8], area: &Area, t: &mut Tally) {
 fn no_map(bytes: &[u8], area: &Area, t: &mut Tally) {
     let mut sheet = Guarded::of(bytes);
     let mut refuses = |call: &str, same: bool, said: String| {
-        t.same("damaged: map calls", same, || of_bytes(bytes, call, said));
+        t.same("damaged: map calls", same, || {
+            Input::of_bytes(bytes, call, said)
+        });
     };
     let bad = plain::Area {
         kind: 7,
@@ -317,7 +313,7 @@ fn still_a_map(mut map: Map, bytes: &[u8], area: &Area, t: &mut Tally) {
         false => Made::Refused(5),
     };
     t.same("damaged: still a map", now == expected, || {
-        of_bytes(bytes, "listing", format!("{now:?}"))
+        Input::of_bytes(bytes, "listing", format!("{now:?}"))
     });
     let behind = bytes[map.layout().len()..].to_vec();
     let position = map.rules.len() as u64;
@@ -332,7 +328,7 @@ fn still_a_map(mut map: Map, bytes: &[u8], area: &Area, t: &mut Tally) {
     let now = plain::map_insert(sheet.lent_mut(), area.ours().into(), 3);
     let same = now == expected && sheet.holds(&[map.layout(), behind].concat());
     t.same("damaged: still a map", same, || {
-        of_bytes(bytes, "insert", format!("{now:?}"))
+        Input::of_bytes(bytes, "insert", format!("{now:?}"))
     });
 }
 

@@ -247,19 +247,13 @@ fn read_back(store: &Store, sheet: &[u8], t: &mut Tally) {
     });
 }
 
-/// What was said of bytes that may be no store.
-fn of_bytes(bytes: &[u8], call: &str, said: String) -> Input {
-    let text = format!("{call} of {bytes:02x?}: {said}");
-    Input::new(Limits::new(0, 0, 0), bytes.len(), text)
-}
-
 /// Bytes that may be no store: every call against the model of the layout.
 pub fn damaged(bytes: &[u8], offer: &Offer, t: &mut Tally) {
     let model = Store::read(bytes);
     let now = plain::store_test(Guarded::of(bytes).lent());
     let expected = if model.is_some() { 0 } else { 2 };
     t.same("damaged: store test", now == expected, || {
-        of_bytes(bytes, "test", format!("{now}"))
+        Input::of_bytes(bytes, "test", format!("{now}"))
     });
     match model {
         Some(store) => still_a_store(&store, bytes, offer, t),
@@ -271,7 +265,9 @@ pub fn damaged(bytes: &[u8], offer: &Offer, t: &mut Tally) {
 fn no_store(bytes: &[u8], offer: &Offer, t: &mut Tally) {
     let mut sheet = Guarded::of(bytes);
     let mut refuses = |call: &str, same: bool, said: String| {
-        t.same("damaged: store calls", same, || of_bytes(bytes, call, said));
+        t.same("damaged: store calls", same, || {
+            Input::of_bytes(bytes, call, said)
+        });
     };
     let now = offer_to(sheet.lent_mut(), offer);
     let same = now == answer(Fate::Refused(2)) && sheet.holds(bytes);
@@ -309,7 +305,7 @@ fn still_a_store(store: &Store, bytes: &[u8], offer: &Offer, t: &mut Tally) {
     let same = now == answer(fate) && sheet.holds(&content);
     t.same("damaged: still a store", same, || {
         let said = format!("{}: ours {now:?}, model {fate:?}", shown(offer));
-        of_bytes(bytes, "offer", said)
+        Input::of_bytes(bytes, "offer", said)
     });
 }
 

@@ -92,6 +92,12 @@ impl Input {
         }
     }
 
+    /// Bytes that may be no sheet, and what a call said of them.
+    pub fn of_bytes(bytes: &[u8], call: &str, said: String) -> Self {
+        let text = format!("{call} of {bytes:02x?}: {said}");
+        Input::new(Limits::new(0, 0, 0), bytes.len(), text)
+    }
+
     fn shown(&self) -> String {
         match self.text.char_indices().nth(400) {
             Some((at, _)) => format!("{}...", &self.text[..at]),
