@@ -1,10 +1,10 @@
 -- The calls that read a map: what was tested and read decides which answer it is.
-use Prim.Native.Nat.{ℕ, _≤_, _<_}
+use Prim.Native.Nat.{ℕ, _<_}
 use mathlib.Core.Path.{_≡_, sym, _∙_, ap}
 use mathlib.Core.List.{List}
 use mathlib.Core.Bool.{true, false}
-use native.Mathlib.Omega.{arith}
-use borrow.Author.Tests.{lt-ltb, le-ltb}
+use lib.Dec.{ltb}
+use borrow.Author.Tests.{ltb-true}
 use Rattle.willow.specs.declared.Refusal.the-variants.{BadSheet}
 use Rattle.willow.specs.Numbers.{Bytes}
 use Rattle.willow.specs.Packed.{pack}
@@ -38,23 +38,23 @@ module _ (s : List ℕ) (passed : isMap s ≡ true) where
   unfolding countOutcome
   count-read n e = rw passed (ap value e)
 
-  module _ (i n : ℕ) (e : n ≡ countIn s) where
-    pub rule-none : n ≤ i → absent ≡ ruleRead s i
+  module _ (i : ℕ) where
+    pub rule-none : ltb i (countIn s) ≡ false → absent ≡ ruleRead s i
     unfolding ruleRead
-    rule-none h = rw (passed, ← e, le-ltb i n h)
+    rule-none h = rw (passed, h)
 
-    pub path-none : n ≤ i → absent ≡ rulePath s i
+    pub path-none : ltb i (countIn s) ≡ false → absent ≡ rulePath s i
     unfolding rulePath
-    path-none h = rw (passed, ← e, le-ltb i n h)
+    path-none h = rw (passed, h)
 
-    pub rule-there : i < n → value (ruleParts (ruleAt s i)) ≡ ruleRead s i
+    pub rule-there : ltb i (countIn s) ≡ true → value (ruleParts (ruleAt s i)) ≡ ruleRead s i
     unfolding ruleRead
-    rule-there h = rw (passed, ← e, lt-ltb i n h)
+    rule-there h = rw (passed, h)
 
     -- its path, as it was cut out of its cell
-    pub path-there : i < n → Bytes s → (b : List ℕ) → b ≡ usedPart (cell (mapRow s i)) → value b ≡ rulePath s i
+    pub path-there : ltb i (countIn s) ≡ true → Bytes s → (b : List ℕ) → b ≡ usedPart (cell (mapRow s i)) → value b ≡ rulePath s i
     unfolding rulePath
     path-there h bytes b same =
-        let k : i < countIn s = omega arith in
+        let k : i < countIn s = ltb-true i (countIn s) h in
         let whole : b ≡ pack (ruleAt s i .area .path) = part-whole s i passed k b same bytes ∙ ap (λ r. pack (r .area .path)) (sym (rule-at s passed i k)) in
-        rw (passed, ← e, lt-ltb i n h) (ap value whole)
+        rw (passed, h) (ap value whole)

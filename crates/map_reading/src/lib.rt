@@ -7,9 +7,13 @@ use area::Area;
 use map_form::COUNT_AT;
 use willow::Counted;
 use willow::Refusal;
+ghost use mathlib.Core.Bool.{true};
 ghost use mathlib.Core.Path.{_≡_};
+ghost use lib.Dec.{ltb};
 ghost use Rattle.willow.specs.Answers.{countedOutcome, writtenBuffer, writtenLength};
 ghost use Rattle.reading.specs.Reading.{bytesOr};
+ghost use Rattle.map_form.specs.Maps.{countIn};
+ghost use Rattle.map_form.specs.MapTest.{isMap};
 ghost use Rattle.map_reading.specs.Rules.{countOutcome, ruleOutcome, rulePath, ruleRead};
 
 // A rule that there may not be: its area beside the buffer that `rule_path` gives, and its value.
@@ -29,12 +33,20 @@ pub fn rule_count(sheet: &[u8]) -> Counted
     Counted::Refused(Refusal::BadSheet)
 }
 
+// Whether a map has a rule i: they are counted from 0.
+fn is_there(sheet: &[u8], i: u64) -> bool
+    requires { ⌜ isMap (now sheet) ≡ true ⌝ }
+    ensures { λ r. ⌜ r ≡ ltb i (countIn (now (sheet .entry))) ⌝ }
+{
+    i < number::read_u64(sheet, COUNT_AT)
+}
+
 // Rule i but for its path, none past the last.
 pub fn rule(sheet: &[u8], i: u64) -> RuleRead
     ensures { λ r. ⌜ ruleOutcome r ≡ ruleRead (now (sheet .entry)) i ⌝ }
 {
     if map_test::inner::is_map(sheet) {
-        if i < number::read_u64(sheet, COUNT_AT) {
+        if is_there(sheet, i) {
             return inner::rule(sheet, i as usize);
         }
         return RuleRead::Nothing;
@@ -47,7 +59,7 @@ pub fn rule_path<'a>(sheet: &'a [u8], i: u64) -> &'a [u8]
     ensures { λ r. ⌜ now r ≡ bytesOr (rulePath (now (sheet .entry)) i) ⌝ }
 {
     if map_test::inner::is_map(sheet) {
-        if i < number::read_u64(sheet, COUNT_AT) {
+        if is_there(sheet, i) {
             return map_rules::inner::rule_path(sheet, i as usize);
         }
     }
@@ -60,7 +72,7 @@ pub fn write_rule_path(sheet: &[u8], i: u64, out: &mut [u8]) -> Counted
     ensures { λ _. ⌜ now (out .exit) ≡ writtenBuffer (rulePath (now (sheet .entry)) i) (now (out .entry)) ⌝ }
 {
     if map_test::inner::is_map(sheet) {
-        if i < number::read_u64(sheet, COUNT_AT) {
+        if is_there(sheet, i) {
             return written::write_part(map_rules::inner::rule_path(sheet, i as usize), out);
         }
         return Counted::Nothing;

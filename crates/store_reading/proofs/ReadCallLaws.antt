@@ -1,10 +1,10 @@
 -- The calls on a store: what was tested and read decides which answer it is.
-use Prim.Native.Nat.{ℕ, _≤_, _<_}
+use Prim.Native.Nat.{ℕ}
 use mathlib.Core.Path.{_≡_, _∙_, ap}
 use mathlib.Core.List.{List}
 use mathlib.Core.Bool.{true, false}
+use lib.Dec.{ltb}
 use lib.ListN.{getD}
-use borrow.Author.Tests.{lt-ltb, le-ltb}
 use Rattle.willow.specs.declared.Refusal.the-variants.{BadSheet}
 use Rattle.willow.specs.Numbers.{Bytes}
 use Rattle.willow.specs.Refusals.{refused, absent, value}
@@ -30,11 +30,11 @@ module _ (s : List ℕ) (stored : isStore s ≡ true) where
   unfolding numbersRead
   numbers-there x e = rw stored (ap value e)
 
-  module _ (b : Bytes s) (i n : ℕ) (e : n ≡ countIn s) where
-    pub entry-none : n ≤ i → absent ≡ entryRead s i
+  module _ (b : Bytes s) (i : ℕ) where
+    pub entry-none : ltb i (countIn s) ≡ false → absent ≡ entryRead s i
     unfolding entryRead
-    entry-none h = rw (stored, entries-many s stored b, ← e, le-ltb i n h)
+    entry-none h = rw (stored, entries-many s stored b, h)
 
-    pub entry-there : i < n → value (getD (stateIn s .entries) i noEntry) ≡ entryRead s i
+    pub entry-there : ltb i (countIn s) ≡ true → value (getD (stateIn s .entries) i noEntry) ≡ entryRead s i
     unfolding entryRead
-    entry-there h = rw (stored, entries-many s stored b, ← e, lt-ltb i n h)
+    entry-there h = rw (stored, entries-many s stored b, h)

@@ -8,9 +8,13 @@ use store_form::COUNT_AT;
 use willow::Counted;
 use willow::Limits;
 use willow::Refusal;
+ghost use mathlib.Core.Bool.{true};
 ghost use mathlib.Core.Path.{_≡_};
+ghost use lib.Dec.{ltb};
 ghost use Rattle.willow.specs.Answers.{countedOutcome, writtenBuffer, writtenLength};
 ghost use Rattle.reading.specs.Reading.{bytesOr};
+ghost use Rattle.store_form.specs.Stores.{countIn};
+ghost use Rattle.store_form.specs.StoreTest.{isStore};
 ghost use Rattle.store_reading.specs.Held.{componentsOf, entryRead, headOr, noHead, numbersOutcome, numbersRead, packedOf};
 
 // The numbers before the heads: what the store was made with, how many entries it holds, and the bytes held and let go.
@@ -59,13 +63,21 @@ fn no_entry(why: Counted) -> EntryRead
     }
 }
 
+// Whether a store has an entry i: they are counted from 0.
+fn is_held(sheet: &[u8], i: u64) -> bool
+    requires { ⌜ isStore (now sheet) ≡ true ⌝ }
+    ensures { λ r. ⌜ r ≡ ltb i (countIn (now (sheet .entry))) ⌝ }
+{
+    i < number::read_u64(sheet, COUNT_AT)
+}
+
 // Entry i but for its path, of which it has the count; none past the last.
 pub fn entry(sheet: &[u8], i: u64) -> EntryRead
     ensures { λ r. ⌜ countedOutcome (r .count) ≡ componentsOf (entryRead (now (sheet .entry)) i) ⌝ }
     ensures { λ r. ⌜ r .head ≡ headOr (entryRead (now (sheet .entry)) i) ⌝ }
 {
     if store_test::inner::is_store(sheet) {
-        if i < number::read_u64(sheet, COUNT_AT) {
+        if is_held(sheet, i) {
             return inner::entry(sheet, i as usize);
         }
         return no_entry(Counted::Nothing);
@@ -78,7 +90,7 @@ pub fn entry_path<'a>(sheet: &'a [u8], i: u64) -> &'a [u8]
     ensures { λ r. ⌜ now r ≡ bytesOr (packedOf (entryRead (now (sheet .entry)) i)) ⌝ }
 {
     if store_test::inner::is_store(sheet) {
-        if i < number::read_u64(sheet, COUNT_AT) {
+        if is_held(sheet, i) {
             return inner::path(sheet, i as usize);
         }
     }
@@ -91,7 +103,7 @@ pub fn write_entry_path(sheet: &[u8], i: u64, out: &mut [u8]) -> Counted
     ensures { λ _. ⌜ now (out .exit) ≡ writtenBuffer (packedOf (entryRead (now (sheet .entry)) i)) (now (out .entry)) ⌝ }
 {
     if store_test::inner::is_store(sheet) {
-        if i < number::read_u64(sheet, COUNT_AT) {
+        if is_held(sheet, i) {
             return written::write_part(inner::path(sheet, i as usize), out);
         }
         return Counted::Nothing;

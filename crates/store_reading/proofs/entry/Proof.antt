@@ -1,16 +1,17 @@
 -- Entry i of a store that passed, none past the count that stands in it, or 2; and the head beside it.
+use Prim.Native.Nat.{_<_}
 use mathlib.Core.Path.{_≡_, sym, _∙_, ap}
 use mathlib.Core.Bool.{true}
 use native.Mathlib.Omega.{arith}
 use denote.Ref.{now}
 use lib.ListN.{getD}
+use borrow.Author.Tests.{ltb-true}
 use Rattle.willow.specs.declared.Refusal.the-variants.{BadSheet}
 use Rattle.willow.specs.Numbers.{Bytes}
 use Rattle.willow.specs.Refusals.{refused, absent, value}
 use Rattle.willow.proofs.NumberLaws.{bytes-by-index}
-use Rattle.store_form.specs.Stores.{stateIn}
+use Rattle.store_form.specs.Stores.{countIn, stateIn}
 use Rattle.store_form.specs.StoreTest.{isStore}
-use Rattle.store_form.proofs.TestedLaws.{known}
 use Rattle.willow.specs.Answers.{countedOutcome}
 use Rattle.store_reading.specs.Held.{componentsOf, entryRead, headOr, noEntry}
 use Rattle.store_reading.proofs.ReadCallLaws.{entry-bad, entry-none, entry-there}
@@ -25,10 +26,10 @@ bytes : (c : tie.After-shared-slice-known) → Bytes (now (c .before .args .shee
 bytes c = bytes-by-index (now (c .before .args .sheet)) (λ i. c .shared-slice-known .given i .fits)
 
 there : (c : tie.Then2) → value (getD (stateIn (now (c .before .before .before .before .before .args .sheet)) .entries) (c .before .before .before .before .before .args .i) noEntry) ≡ entryRead (now (c .before .before .before .before .before .args .sheet)) (c .before .before .before .before .before .args .i)
-there c = entry-there _ (passed (c .before .before)) (bytes (c .before .before .before .before)) _ _ (c .before .read-u64 .ensures) (c .if2 .taken)
+there c = entry-there _ (passed (c .before .before)) (bytes (c .before .before .before .before)) _ (sym (c .before .is-held .ensures) ∙ c .if2 .taken)
 
 past : (c : tie.Else2) → absent ≡ entryRead (now (c .before .before .before .before .before .args .sheet)) (c .before .before .before .before .before .args .i)
-past c = entry-none _ (passed (c .before .before)) (bytes (c .before .before .before .before)) _ _ (c .before .read-u64 .ensures) (c .if2 .left)
+past c = entry-none _ (passed (c .before .before)) (bytes (c .before .before .before .before)) _ (sym (c .before .is-held .ensures) ∙ c .if2 .left)
 
 bad : (c : tie.Else1) → refused BadSheet ≡ entryRead (now (c .before .before .before .args .sheet)) (c .before .before .before .args .i)
 bad c = entry-bad _ (sym (c .before .is-store .ensures) ∙ c .if1 .left) _
@@ -36,11 +37,14 @@ bad c = entry-bad _ (sym (c .before .is-store .ensures) ∙ c .if1 .left) _
 is-store-requires : tie.Need-is-store-requires
 is-store-requires c κs = search needs
 
-read-u64-requires : tie.Need-read-u64-requires
-read-u64-requires c κs = omega (arith, known _ (passed c) .long)
+is-held-requires : tie.Need-is-held-requires
+is-held-requires c κs = passed c
+
+within : (c : tie.Then2) → c .before .before .before .before .before .args .i < countIn (now (c .before .before .before .before .before .args .sheet))
+within c = ltb-true _ _ (sym (c .before .is-held .ensures) ∙ c .if2 .taken)
 
 entry-requires : tie.Need-entry-requires
-entry-requires c κs = (passed (c .before .before), omega (arith, c .if2 .taken, c .before .read-u64 .ensures))
+entry-requires c κs = (passed (c .before .before), omega (arith, within c))
 
 returns : tie.Need-returns
 returns c = (c .entry .ensures .0 ∙ ap componentsOf (there (c .before)), c .entry .ensures .1 ∙ ap headOr (there (c .before)))
@@ -62,7 +66,7 @@ entry-spec =
     tie.close
     (tie.spec
     is-store-requires
-    read-u64-requires
+    is-held-requires
     entry-requires
     returns
     no-entry-requires
