@@ -4,7 +4,8 @@ use mathlib.Core.Path.{_≡_}
 use Rattle.willow.specs.Refusals.{value}
 use Rattle.path_range_intersection.specs.declared.EndSide.{EndSide}
 use Rattle.path_range_intersection.specs.declared.Side.{Side}
-use Rattle.host_path_range_intersection.specs.PathRangeExports.{sideNumber, endSideKind, endSideNumber, givenSides}
+use Rattle.side_kinds.specs.SideKinds.{sideNumber, endSideKind, endSideNumber}
+use Rattle.host_path_range_intersection.specs.PathRangeExports.{givenSides}
 use Rattle.host_path_range_intersection.specs.declared.SidesAnswer.{SidesAnswer}
 
 abbrev numbers : (start kind end : ℕ) → SidesAnswer

@@ -4,26 +4,9 @@ use Prim.Native.Nat.{ℕ}
 use Rattle.willow.specs.Refusals.{refusalNumber, Outcome, refused, absent, value}
 use Rattle.convention.specs.Exports.{answeredStatus, noneStatus}
 use Rattle.path_range_intersection.specs.declared.EndSide.{EndSide}
-use Rattle.path_range_intersection.specs.declared.EndSide.the-variants as ending
 use Rattle.path_range_intersection.specs.declared.Side.{Side}
-use Rattle.path_range_intersection.specs.declared.Side.the-variants as side
+use Rattle.side_kinds.specs.SideKinds.{sideNumber, endSideKind, endSideNumber}
 use Rattle.host_path_range_intersection.specs.declared.SidesAnswer.{SidesAnswer}
-
--- 0 the first's, 1 the second's.
-abbrev pub sideNumber : Side → ℕ
-sideNumber side.First = 0
-sideNumber side.Second = 1
-
--- "Kinds: end 0 open, 1 closed."
-abbrev pub endSideKind : EndSide → ℕ
-endSideKind ending.First = 1
-endSideKind ending.Second = 1
-endSideKind ending.Open = 0
-
-abbrev pub endSideNumber : EndSide → ℕ
-endSideNumber ending.First = 0
-endSideNumber ending.Second = 1
-endSideNumber ending.Open = 0
 
 abbrev pub noSides : ℕ → SidesAnswer
 noSides status = record { status = status; start = 0; «end_kind» = 0; end = 0 }

@@ -2,8 +2,6 @@
 // `host_path_range`; the call refuses 1, then 3, then 5.
 
 use path_kinds::RangesRead;
-use path_range_intersection::EndSide;
-use path_range_intersection::Side;
 use path_range_intersection::SidesMet;
 use willow::Limits;
 ghost use mathlib.Core.List.{_++_};
@@ -15,7 +13,7 @@ ghost use Rattle.path_bounds.specs.LentPaths.{onLent};
 ghost use Rattle.path_bounds.specs.LentRanges.{pathRangeOf, rangePaths};
 ghost use Rattle.path_range_intersection.specs.Sides.{metOutcome, sidesMet};
 ghost use Rattle.path_kinds.specs.PathKinds.{pathRangeFrom};
-ghost use Rattle.host_path_range_intersection.specs.PathRangeExports.{endSideKind, endSideNumber, givenSides, noSides, sideNumber};
+ghost use Rattle.host_path_range_intersection.specs.PathRangeExports.{givenSides, noSides};
 
 // An intersection as an answer: 0, a refusal's number or 255 for none; whose start stands (0 the first's, 1 the second's), the kind of
 // its end, and whose end stands; zeros unless there is one, and 0 beside kind 0.
@@ -25,37 +23,6 @@ pub struct SidesAnswer {
     pub start: u64,
     pub end_kind: u64,
     pub end: u64,
-}
-
-// Whose start stands.
-fn side_number(side: Side) -> u64
-    ensures { λ r. ⌜ r ≡ sideNumber side ⌝ }
-{
-    match side {
-        Side::First => 0,
-        Side::Second => 1,
-    }
-}
-
-// Whether an end stands, and whose.
-fn end_side_kind(side: EndSide) -> u64
-    ensures { λ r. ⌜ r ≡ endSideKind side ⌝ }
-{
-    match side {
-        EndSide::First => 1,
-        EndSide::Second => 1,
-        EndSide::Open => 0,
-    }
-}
-
-fn end_side_number(side: EndSide) -> u64
-    ensures { λ r. ⌜ r ≡ endSideNumber side ⌝ }
-{
-    match side {
-        EndSide::First => 0,
-        EndSide::Second => 1,
-        EndSide::Open => 0,
-    }
 }
 
 // No intersection: why.
@@ -79,9 +46,9 @@ fn met(m: SidesMet) -> SidesAnswer
         SidesMet::Nothing => no_sides(255),
         SidesMet::Are(a, b) => SidesAnswer {
             status: 0,
-            start: side_number(a),
-            end_kind: end_side_kind(b),
-            end: end_side_number(b),
+            start: side_kinds::side_number(a),
+            end_kind: side_kinds::end_side_kind(b),
+            end: side_kinds::end_side_number(b),
         },
     }
 }

@@ -3,7 +3,7 @@ use Prim.Native.Nat.{ℕ}
 use mathlib.Core.Path.{_≡_}
 use Rattle.willow.specs.Ranges.{endKind, endValue}
 use Rattle.range_3d_intersection.specs.Sides3d.{Standing3d}
-use Rattle.range_3d_kinds.specs.Range3dKinds.{sideNumber, endSideKind, endSideNumber}
+use Rattle.side_kinds.specs.SideKinds.{sideNumber, endSideKind, endSideNumber}
 use Rattle.host_range_3d_intersection.specs.SidesExports.{sidesAnswer}
 use Rattle.host_range_3d_intersection.specs.declared.Range3dAnswer.{Range3dAnswer}
 

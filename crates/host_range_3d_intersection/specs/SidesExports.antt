@@ -5,7 +5,7 @@ use Rattle.willow.specs.Ranges.{endKind, endValue}
 use Rattle.willow.specs.Refusals.{refusalNumber, Outcome, refused, absent, value}
 use Rattle.convention.specs.Exports.{answeredStatus, noneStatus}
 use Rattle.range_3d_intersection.specs.Sides3d.{Standing3d}
-use Rattle.range_3d_kinds.specs.Range3dKinds.{sideNumber, endSideKind, endSideNumber}
+use Rattle.side_kinds.specs.SideKinds.{sideNumber, endSideKind, endSideNumber}
 use Rattle.host_range_3d_intersection.specs.declared.Range3dAnswer.{Range3dAnswer}
 
 abbrev pub sidesAnswer : Standing3d → Range3dAnswer

@@ -1,4 +1,4 @@
--- 3d ranges whose kinds come as numbers, and the sides of an intersection as numbers.
+-- 3d ranges whose kinds come as numbers.
 use Prim.Native.Nat.{ℕ}
 use mathlib.Core.List.{List}
 use mathlib.Core.Option.{Option, none, some}
@@ -10,10 +10,6 @@ use Rattle.kinds.specs.Kinds.{both, rangeFrom}
 use Rattle.path_bounds.specs.declared.PathRange.{PathRange}
 use Rattle.path_bounds.specs.LentRanges.{pathRangeOf}
 use Rattle.path_kinds.specs.PathKinds.{pathRangeFrom}
-use Rattle.path_range_intersection.specs.declared.EndSide.{EndSide}
-use Rattle.path_range_intersection.specs.declared.EndSide.the-variants as ending
-use Rattle.path_range_intersection.specs.declared.Side.{Side}
-use Rattle.path_range_intersection.specs.declared.Side.the-variants as side
 use Rattle.range_3d.specs.declared.Range3d as code
 use Rattle.range_3d_kinds.specs.declared.Range3dRead.{Range3dRead}
 use Rattle.range_3d_kinds.specs.declared.Range3dRead.the-variants as one
@@ -55,19 +51,3 @@ range3dRead (one.Is a) = value (parts3d a)
 abbrev pub ranges3dRead : Ranges3dRead → Outcome (Parts3d × Parts3d)
 ranges3dRead (two.Refused r) = refused r
 ranges3dRead (two.Are a b) = value (parts3d a, parts3d b)
-
--- IN AN ANSWER. Whose start stands: 0 the first's, 1 the second's.
-abbrev pub sideNumber : Side → ℕ
-sideNumber side.First = 0
-sideNumber side.Second = 1
-
--- "Kinds: end 0 open, 1 closed", and whose end it is; 0 beside kind 0.
-abbrev pub endSideKind : EndSide → ℕ
-endSideKind ending.First = 1
-endSideKind ending.Second = 1
-endSideKind ending.Open = 0
-
-abbrev pub endSideNumber : EndSide → ℕ
-endSideNumber ending.First = 0
-endSideNumber ending.Second = 1
-endSideNumber ending.Open = 0

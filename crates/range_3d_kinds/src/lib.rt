@@ -5,8 +5,6 @@ use kinds::RangeRead;
 use path_bounds::PathEnd;
 use path_bounds::PathRange;
 use path_kinds::RangeRead as PathsRead;
-use path_range_intersection::EndSide;
-use path_range_intersection::Side;
 use range_3d::Range3d;
 use willow::Limits;
 use willow::RangeEnd;
@@ -16,7 +14,7 @@ ghost use Rattle.willow.specs.Ranges.{endOf};
 ghost use Rattle.willow.specs.Refusals.{value};
 ghost use Rattle.kinds.specs.Kinds.{both, ofKinds, onKinds, rangeFrom};
 ghost use Rattle.range_3d_intersection.specs.Sides3d.{pathEndCount};
-ghost use Rattle.range_3d_kinds.specs.Range3dKinds.{endSideKind, endSideNumber, parts3dFrom, range3dRead, ranges3dRead, sideNumber, withNumbers};
+ghost use Rattle.range_3d_kinds.specs.Range3dKinds.{parts3dFrom, range3dRead, ranges3dRead, withNumbers};
 
 pub enum Range3dRead {
     Refused(Refusal),
@@ -133,38 +131,7 @@ pub fn read_ranges_3d(
     }
 }
 
-// IN AN ANSWER. Whose start stands.
-pub fn side_number(side: Side) -> u64
-    ensures { λ r. ⌜ r ≡ sideNumber side ⌝ }
-{
-    match side {
-        Side::First => 0,
-        Side::Second => 1,
-    }
-}
-
-// Whether an end stands, and whose.
-pub fn end_side_kind(side: EndSide) -> u64
-    ensures { λ r. ⌜ r ≡ endSideKind side ⌝ }
-{
-    match side {
-        EndSide::First => 1,
-        EndSide::Second => 1,
-        EndSide::Open => 0,
-    }
-}
-
-pub fn end_side_number(side: EndSide) -> u64
-    ensures { λ r. ⌜ r ≡ endSideNumber side ⌝ }
-{
-    match side {
-        EndSide::First => 0,
-        EndSide::Second => 1,
-        EndSide::Open => 0,
-    }
-}
-
-// The count of an end's path as an end.
+// IN AN ANSWER. The count of an end's path as an end.
 pub fn counted_end(end: PathEnd) -> RangeEnd
     ensures { λ r. ⌜ endOf r ≡ pathEndCount end ⌝ }
 {
