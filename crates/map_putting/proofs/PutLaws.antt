@@ -18,7 +18,7 @@ use Rattle.sheet.proofs.CellProofs.{path-cell-length}
 use Rattle.sheet.proofs.LayoutLaws.{length-numbers}
 use Rattle.sheet.proofs.RowLaws.{over-row}
 use Rattle.map_form.specs.Maps.{MapSizes, mapShape, Rule, ruleNumbers, ruleRow}
-use Rattle.area_map.specs.Putting.{withRow}
+use Rattle.map_putting.specs.PutRows.{withRow}
 
 -- NUMBERS from the front of a buffer on. One more behind those that were written:
 number-next : (s t u ns : List ℕ) (x : ℕ) → 8 * length ns ≤ length s → t ≡ overwrite s 0 (laid (le 8) ns)

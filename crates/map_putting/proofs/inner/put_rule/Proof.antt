@@ -5,10 +5,10 @@ use Rattle.map_form.specs.Maps.{MapSizes}
 use Rattle.willow.proofs.PackedLaws.{pack-length}
 use Rattle.packed.proofs.PrefixLaws.{front}
 use Rattle.willow.specs.Answers.{pathIn}
-use Rattle.area_map.proofs.PutLaws.{RowFree, row-free, rule-put}
+use Rattle.map_putting.proofs.PutLaws.{RowFree, row-free, rule-put}
 use borrow.Author.Needs.{needs}
-use Rattle.area_map.proofs.inner.put_rule.Statement.{statement}
-use Rattle.area_map.proofs.inner.put_rule.Tie as tie
+use Rattle.map_putting.proofs.inner.put_rule.Statement.{statement}
+use Rattle.map_putting.proofs.inner.put_rule.Tie as tie
 
 abbrev sizes : tie.Start → MapSizes
 sizes c = record { limits = c .args .limits; capacity = c .args .capacity }

@@ -1,8 +1,8 @@
 -- Six numbers of 8 bytes fill the head, and they are those of the rule.
-use Rattle.area_map.proofs.PutLaws.{six-numbers}
+use Rattle.map_putting.proofs.PutLaws.{six-numbers}
 use borrow.Author.Needs.{needs}
-use Rattle.area_map.proofs.inner.write_head.Statement.{statement}
-use Rattle.area_map.proofs.inner.write_head.Tie as tie
+use Rattle.map_putting.proofs.inner.write_head.Statement.{statement}
+use Rattle.map_putting.proofs.inner.write_head.Tie as tie
 
 subspace-kind-requires : tie.Need-subspace-kind-requires
 subspace-kind-requires c κs = search needs
