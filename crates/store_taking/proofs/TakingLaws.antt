@@ -42,12 +42,13 @@ use Rattle.store_closing.specs.Filing.{staysBy, putAt}
 use Rattle.store_answers.specs.declared.Offered.{Offered}
 use Rattle.store_answers.specs.declared.Offered.the-variants as offered
 use Rattle.store_answers.specs.Calls.{answerOf}
-use Rattle.store.specs.Taking.{entryAnswer, entryLeaves, rowsLeft, filedRows, withCounts}
-use Rattle.store.proofs.FiledLaws.{withAt, length-with-at, map-with-at, closed-filled, put-filled}
-use Rattle.store.proofs.MeetingLaws as meeting
-use Rattle.store.proofs.NamedLaws.{rows-stay}
+use Rattle.store_writing.specs.Filed.{rowsLeft, filedRows, withCounts}
+use Rattle.store_taking.specs.Taking.{entryAnswer, entryLeaves}
+use Rattle.store_writing.proofs.FiledLaws.{withAt, length-with-at, map-with-at, closed-filled, put-filled}
+use Rattle.store_taking.proofs.MeetingLaws as meeting
+use Rattle.store_taking.proofs.NamedLaws.{rows-stay}
 use Rattle.store_answers.proofs.TableLaws.{taken-means}
-use Rattle.store.proofs.WriteLaws.{as-found, let-go-put, counts-put}
+use Rattle.store_taking.proofs.WriteLaws.{as-found, let-go-put, counts-put}
 
 -- THE PATH of an offer is packed in no more bytes than a cell has.
 pub path-fits : (L : Limits) (b : List ℕ) (k : ℕ) → Bytes b → pathRefusal L b k ≡ none → 8 + 8 * k + pathLength (pathIn b k) ≤ cellSizeOf L

@@ -11,10 +11,10 @@ use Rattle.willow.proofs.NumberLaws.{bytes-by-index}
 use Rattle.lent_path.proofs.TestLaws.{readable}
 use Rattle.entry.specs.Heads.{entryAt}
 use Rattle.store_form.proofs.TestedLaws.{known}
-use Rattle.store.proofs.TakingLaws.{path-fits, Numbers, numbersIn, totals, payloads-word, rows-readable, Filing, full, pruned-few, refused-so, outdated-so, repeat-so, filing, taken-so}
+use Rattle.store_taking.proofs.TakingLaws.{path-fits, Numbers, numbersIn, totals, payloads-word, rows-readable, Filing, full, pruned-few, refused-so, outdated-so, repeat-so, filing, taken-so}
 use borrow.Author.Needs.{needs}
-use Rattle.store.proofs.inner.take_offer.Statement.{statement}
-use Rattle.store.proofs.inner.take_offer.Tie as tie
+use Rattle.store_taking.proofs.inner.take_offer.Statement.{statement}
+use Rattle.store_taking.proofs.inner.take_offer.Tie as tie
 
 -- the sheet, which is a store of bytes, and the path
 abbrev sheet : tie.Start → List ℕ

@@ -19,7 +19,7 @@ use Rattle.store_form.specs.StoreTest.{isStore}
 use Rattle.store_form.proofs.EntryRows.{rows-fit}
 use Rattle.store_form.proofs.ReadingLaws.{store-reading}
 use Rattle.store_law.proofs.LaidOutLaws.{laid-rest}
-use Rattle.store.specs.Taking.{withCounts}
+use Rattle.store_writing.specs.Filed.{withCounts}
 
 module _ (s : List ℕ) (b : Bytes s) (stored : isStore s ≡ true) where
   abbrev z : Shape

@@ -17,7 +17,7 @@ use Rattle.sheet.proofs.RowLaws.{fitting-take, fitting-drop, fitting-append, fi
 use Rattle.store_form.specs.Stores.{storeShape, entryRow}
 use Rattle.store_rows.specs.EntryRows.{sizesOf}
 use Rattle.store_closing.specs.Filing.{staysBy, closedUp, putAt}
-use Rattle.store.specs.Taking.{rowsLeft, filedRows}
+use Rattle.store_writing.specs.Filed.{rowsLeft, filedRows}
 
 -- A new one at i.
 abbrev pub withAt : {A : Type 0} → ℕ → A → List A → List A

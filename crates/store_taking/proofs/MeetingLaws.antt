@@ -28,8 +28,8 @@ use Rattle.store_form.proofs.TestedLaws.{known}
 use Rattle.store_scan.specs.declared.Scan.{Scan}
 use Rattle.store_scan.specs.Scans.{nothingMet, metBy, met, scanned}
 use Rattle.store_scan.proofs.ScanLaws.{scan-theorem}
-use Rattle.store.proofs.FiledLaws.{withAt}
-use Rattle.store.proofs.NamedLaws.{named-scanned}
+use Rattle.store_writing.proofs.FiledLaws.{withAt}
+use Rattle.store_taking.proofs.NamedLaws.{named-scanned}
 
 -- NO MORE ARE PRUNED THAN THERE ARE, also where a held entry prunes the offer.
 met-pruned : (e h : Entry) (a : Scan) → met e a h .pruned ≤ a .pruned + 1

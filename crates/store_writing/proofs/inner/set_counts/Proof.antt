@@ -2,10 +2,10 @@
 use mathlib.Core.Path.{_∙_, ap}
 use Rattle.willow.specs.Numbers.{le}
 use Rattle.number.specs.Overwriting.{overwrite}
-use Rattle.store.specs.Taking.{withCounts}
+use Rattle.store_writing.specs.Filed.{withCounts}
 use borrow.Author.Needs.{needs}
-use Rattle.store.proofs.inner.set_counts.Statement.{statement}
-use Rattle.store.proofs.inner.set_counts.Tie as tie
+use Rattle.store_writing.proofs.inner.set_counts.Statement.{statement}
+use Rattle.store_writing.proofs.inner.set_counts.Tie as tie
 
 write-u64-requires : tie.Need-write-u64-requires
 write-u64-requires c κs = search needs

@@ -3,10 +3,10 @@ use denote.Ref.{now}
 use Rattle.willow.specs.Answers.{pathIn}
 use Rattle.entry.specs.Heads.{entryAt}
 use Rattle.store_form.specs.Stores.{entryHead, entryRow}
-use Rattle.store.proofs.FiledLaws.{rows-filed}
+use Rattle.store_writing.proofs.FiledLaws.{rows-filed}
 use borrow.Author.Needs.{needs}
-use Rattle.store.proofs.inner.file_rows.Statement.{statement}
-use Rattle.store.proofs.inner.file_rows.Tie as tie
+use Rattle.store_writing.proofs.inner.file_rows.Statement.{statement}
+use Rattle.store_writing.proofs.inner.file_rows.Tie as tie
 
 close-up-requires : tie.Need-close-up-requires
 close-up-requires c κs = search needs
