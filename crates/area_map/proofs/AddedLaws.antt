@@ -21,7 +21,7 @@ use Rattle.map_form.proofs.MapSound.{rules-count, read-layout, read}
 use Rattle.map_form.proofs.MapTestLaws.{map-passed}
 use Rattle.map_form.proofs.RuleLaws.{rule-head-length}
 use Rattle.map_law.specs.Insertions.{withRules}
-use Rattle.area_map.specs.Putting.{withRow}
+use Rattle.map_putting.specs.PutRows.{withRow}
 
 -- the header with another number of rows
 header-counted : (z : MapSizes) (n m : ℕ) → overwrite (headerOf z n) 4 (m ∷ []) ≡ headerOf z m

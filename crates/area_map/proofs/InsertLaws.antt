@@ -32,7 +32,8 @@ use Rattle.map_form.specs.Maps.{MapSizes, mapShape, Rule, sizesIn, countIn, rul
 use Rattle.map_form.specs.MapTest.{isMap}
 use Rattle.map_form.proofs.MapTestLaws.{Passed, map-passed}
 use Rattle.map_law.specs.Insertions.{Insertion, partsIn, areaRefusal, insertRefusal, insertAnswer, insertLeaves, leavesFor, withRules}
-use Rattle.area_map.specs.Putting.{leavesUnless, partsRefusal, areaAnswer, areaLeaves, withRow}
+use Rattle.map_putting.specs.PutRows.{withRow}
+use Rattle.area_map.specs.Putting.{leavesUnless, partsRefusal, areaAnswer, areaLeaves}
 use Rattle.area_map.proofs.AddedLaws.{rule-added}
 use Rattle.map_law.proofs.ArgumentLaws.{parts-stand}
 

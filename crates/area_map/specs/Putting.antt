@@ -1,15 +1,12 @@
--- What the functions under an insertion answer and leave.
-use Prim.Native.Nat.{ℕ, _+_}
+-- What the function under an insertion answers and leaves.
+use Prim.Native.Nat.{ℕ}
 use mathlib.Core.List.{List, [], _∷_, _++_}
 use mathlib.Core.Option.{Option, none, some}
 use Rattle.willow.specs.declared.Refusal.{Refusal}
 use Rattle.willow.specs.Answers.{orElse, unless, lentRefusal, pathIn}
-use Rattle.willow.specs.Numbers.{le}
 use Rattle.willow.specs.Refusals.{Outcome, value}
-use Rattle.number.specs.Overwriting.{overwrite}
-use Rattle.sheet.specs.Rows.{rowsOf, withRows}
 use Rattle.area_kinds.specs.AreaKinds.{Parts, areaWith}
-use Rattle.map_form.specs.Maps.{MapSizes, mapShape, Rule, ruleRow, sizesIn, countPlace, countIn, rulesIn}
+use Rattle.map_form.specs.Maps.{sizesIn, countIn, rulesIn}
 use Rattle.map_law.specs.Insertions.{roomRefusal, withRules}
 
 -- Behind 2 and 3: of an area's parts and the buffer of its path, 5 and then 14.
@@ -27,7 +24,3 @@ unfoldable pub areaLeaves : List ℕ → Parts → List ℕ → ℕ → List ℕ
 areaLeaves s a b v =
     leavesUnless s (partsRefusal s a b)
     (withRules s (rulesIn s ++ (record { area = areaWith a (pathIn b (a .count)); value = v } ∷ [])))
-
--- The bytes of a sheet with a rule in row n, whatever stood there, and n + 1 rows in use.
-unfoldable pub withRow : MapSizes → List ℕ → ℕ → Rule → List ℕ
-withRow z s n r = overwrite (withRows (mapShape z) s (overwrite (rowsOf (mapShape z) s) n (ruleRow (z .limits) r ∷ []))) countPlace (le 8 (n + 1))

@@ -1,5 +1,1 @@
-pub mod StateLaws
-pub mod CallLaws
-pub mod HoldsLaws
-pub mod AcceptanceLaws
-pub mod RunLaws
+pub mod AnswerLaws

@@ -14,7 +14,8 @@ ghost use mathlib.Core.Path.{_≡_};
 ghost use Rattle.willow.specs.Answers.{unless};
 ghost use Rattle.willow.specs.Refusals.{value};
 ghost use Rattle.convention.specs.Exports.{limitsOf};
-ghost use Rattle.builder.specs.Building.{appendRefusal, appendedRefusal, appendedState, buildRefusal, builtOutcome, builtState, byRefusal, declaredSize, grown, grownBuffer, keptState, newBuffer, newRefusal, prefixBuffer, prefixRefusal, startedOutcome, stateOf};
+ghost use Rattle.builder_law.specs.Building.{byRefusal, newBuffer, newRefusal, prefixBuffer, prefixRefusal};
+ghost use Rattle.builder.specs.Calls.{appendRefusal, appendedRefusal, appendedState, buildRefusal, builtOutcome, builtState, declaredSize, grown, grownBuffer, keptState, startedOutcome, stateOf};
 ghost use Rattle.host_builder.specs.BuilderExports.{appendedAnswer, builtAnswer, noState, startedAnswer};
 
 // What a start and an append return: 0 or a refusal's number, and the state; zeros for it after a refused start.

@@ -33,6 +33,7 @@ use Rattle.number.proofs.OverwritingLaws.{overwrite-at-front}
 use Rattle.packed.specs.Readable.{Readable}
 use Rattle.construction.specs.Making.{underLimits, slicesOutcome}
 use Rattle.greatest.specs.Greatest.{greatestOutcome}
+use Rattle.least_writing.specs.Written.{pathOr}
 use Rattle.least.specs.Places as least
 use Rattle.keyform.specs.Answering.{onMade, questionOutcome, readOutcome, lineOutcome}
 use Rattle.keyform.specs.Reading.{readLine, readPath}
@@ -150,7 +151,7 @@ admitted-sound L p b a = go (admitted L p) refl
 pub made-sound : (L : Limits) (p : Path) → All Bytes p → Sound L (underLimits L (admitted L p))
 made-sound L p b = under-sound L (admitted L p) (admitted-sound L p b)
 
-found-sound : (L : Limits) (P : Path → Type 0) (o : Option Path) → Accepted L → ((q : Path) → P q → Valid L q) → Least P o → Sound L (least.pathOr o)
+found-sound : (L : Limits) (P : Path → Type 0) (o : Option Path) → Accepted L → ((q : Path) → P q → Valid L q) → Least P o → Sound L (pathOr o)
 found-sound L P none a f h = tt
 found-sound L P (some q) a f h = (a, f q (h .0))
 

@@ -26,7 +26,7 @@ use Rattle.willow.proofs.ConstructionLaws.{admission, valid-admitted}
 use Rattle.willow.proofs.LeastPathLaws.{least-paths}
 use Rattle.willow.proofs.LimitLaws.{limit-laws}
 use Rattle.construction.specs.Making.{underLimits}
-use Rattle.least.specs.Places.{pathOr}
+use Rattle.least_writing.specs.Written.{pathOr}
 use Rattle.least.specs.Places as least
 use Rattle.keyform.proofs.CaseLaws.{by-test}
 use Rattle.keyform.proofs.PathTextLaws.{path-text-length}

@@ -29,7 +29,8 @@ use Rattle.willow.proofs.AnswerLaws.{accepted-words, path-passed}
 use Rattle.willow.proofs.LeastPathLaws.{least-paths}
 use Rattle.willow.proofs.PackedLaws.{pack-count, pack-length, unpack-pack, lent-count, packed-form}
 use Rattle.number.proofs.OverwritingLaws.{overwrite-at-front, number-in-written}
-use Rattle.least.specs.Places.{pathOr, nextGreaterOf}
+use Rattle.least_writing.specs.Written.{pathOr}
+use Rattle.least.specs.Places.{nextGreaterOf}
 use Rattle.range.specs.declared.Range as numbers
 use Rattle.range.specs.NumberRanges.{rangeOf, fullRange}
 use Rattle.area.specs.declared.Area as area

@@ -25,7 +25,7 @@ use Rattle.store_form.proofs.EntryRows.{named}
 use Rattle.store_form.proofs.TestedLaws.{known}
 use Rattle.store_law.specs.Offers.{answerIn, leavesIn}
 use Rattle.store_law.proofs.Demand3BytesLaws.{refused-unchanged}
-use Rattle.store.specs.Taking.{entryAnswer, entryLeaves}
+use Rattle.store_taking.specs.Taking.{entryAnswer, entryLeaves}
 
 module _ (s : List ℕ) (o : Offer) where
   -- WHAT IS ANSWERED AND LEFT. Where it is a refusal, nothing is written.

@@ -2,14 +2,13 @@
 // sheet itself. What every list of offers to a fresh store leaves is `Demand3OnBytes` (crate `store_law`); a fresh store is made by
 // crate `store_making`.
 
-pub mod inner;
-
 use entry::Head;
 use store_answers::Offered;
 use store_form::MCC_AT;
 use store_form::MCL_AT;
 use store_form::MPL_AT;
 use store_form::NAMESPACE_AT;
+use store_taking::inner;
 use willow::Limits;
 use willow::Refusal;
 use willow::Tested;

@@ -5,8 +5,9 @@ use Rattle.willow.proofs.NumberLaws.{bytes-by-index}
 use Rattle.willow.proofs.AnswerLaws.{made-as}
 use Rattle.lent_path.proofs.TestLaws.{one-passed, one-refused, readable}
 use Rattle.lent_path.proofs.LentLaws.{asked}
-use Rattle.least.specs.Places.{pathOr, nextGreaterOf}
-use Rattle.least.proofs.CallLaws.{passed-bounded}
+use Rattle.least_writing.specs.Written.{pathOr}
+use Rattle.least.specs.Places.{nextGreaterOf}
+use Rattle.least_writing.proofs.CallLaws.{passed-bounded}
 use borrow.Author.Needs.{needs}
 use Rattle.least.proofs.greater_but_not_prefixed.Statement.{statement}
 use Rattle.least.proofs.greater_but_not_prefixed.Tie as tie

@@ -6,7 +6,7 @@ use Rattle.willow.proofs.AnswerLaws.{made-as}
 use Rattle.lent_path.proofs.TestLaws.{one-passed, one-refused, readable}
 use Rattle.lent_path.proofs.LentLaws.{asked}
 use Rattle.least.specs.Places.{successorOf}
-use Rattle.least.proofs.CallLaws.{passed-bounded}
+use Rattle.least_writing.proofs.CallLaws.{passed-bounded}
 use borrow.Author.Needs.{needs}
 use Rattle.least.proofs.successor.Statement.{statement}
 use Rattle.least.proofs.successor.Tie as tie

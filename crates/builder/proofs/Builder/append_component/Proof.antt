@@ -1,7 +1,8 @@
 -- The tests decide: they refuse and nothing is changed, or they pass, and then the buffer is one that the component can be written into.
 use native.Mathlib.Omega.{arith}
 use borrow.Author.Needs.{needs}
-use Rattle.builder.proofs.CallLaws.{append-passed, append-refused, append-grown, passed}
+use Rattle.builder_law.proofs.CallLaws.{append-passed}
+use Rattle.builder.proofs.AnswerLaws.{append-refused, append-grown, passed}
 use Rattle.builder.proofs.Builder.append_component.Statement.{statement}
 use Rattle.builder.proofs.Builder.append_component.Tie as tie
 

@@ -1,6 +1,7 @@
 -- The tests decide: they refuse and nothing is written, or they pass and the count and zeros are.
 use borrow.Author.Needs.{needs}
-use Rattle.builder.proofs.CallLaws.{start-passed, start-refused, start-ready, passed}
+use Rattle.builder_law.proofs.CallLaws.{start-passed}
+use Rattle.builder.proofs.AnswerLaws.{start-refused, start-ready, passed}
 use Rattle.builder.proofs.Builder.new.Statement.{statement}
 use Rattle.builder.proofs.Builder.new.Tie as tie
 

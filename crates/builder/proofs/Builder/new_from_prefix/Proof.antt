@@ -1,6 +1,7 @@
 -- The tests decide: they refuse and nothing is written, or they pass and the prefix is.
 use borrow.Author.Needs.{needs}
-use Rattle.builder.proofs.CallLaws.{prefix-passed, start-refused, start-ready, passed}
+use Rattle.builder_law.proofs.CallLaws.{prefix-passed}
+use Rattle.builder.proofs.AnswerLaws.{start-refused, start-ready, passed}
 use Rattle.builder.proofs.Builder.new_from_prefix.Statement.{statement}
 use Rattle.builder.proofs.Builder.new_from_prefix.Tie as tie
 

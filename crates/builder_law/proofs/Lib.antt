@@ -1,0 +1,5 @@
+pub mod StateLaws
+pub mod CallLaws
+pub mod HoldsLaws
+pub mod AcceptanceLaws
+pub mod RunLaws

@@ -1,3 +1,0 @@
-pub mod RaiseLaws
-pub mod TailLaws
-pub mod CallLaws

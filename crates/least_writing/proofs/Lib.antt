@@ -1,0 +1,2 @@
+pub mod TailLaws
+pub mod CallLaws

@@ -1,0 +1,4 @@
+pub mod MeetingLaws
+pub mod NamedLaws
+pub mod TakingLaws
+pub mod WriteLaws
