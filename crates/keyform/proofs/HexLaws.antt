@@ -50,7 +50,7 @@ hex-read (b ∷ bs) a =
     let upper-digit = lt-ltb (b / 16) 16 (omega arith) in
     let lower-digit = lt-ltb (b % 16) 16 (omega arith) in
     let whole : 16 * (b / 16) + b % 16 ≡ b = omega arith in
-    rw (upper, lower, upper-digit, lower-digit, whole, hex-read bs (a .1))
+    rw (upper, lower, upper-digit, lower-digit, hex-read bs (a .1)) (ap (λ x. some (x ∷ bs)) whole)
 
 -- an element before a list that there is
 pub before-some : {A : Type 0} (x : A) (o : Option (List A)) (l : List A) → before x o ≡ some l

@@ -4,7 +4,9 @@ use Prim.Native.Nat.{ℕ, _+_, _*_, _≤_, _<_}
 use mathlib.Core.Path.{_≡_, sym, _∙_, ap}
 use mathlib.Core.List.{List}
 use mathlib.Core.Option.{none}
+use mathlib.Core.Bool.{cond}
 use native.Mathlib.Omega.{arith}
+use lib.Dec.{leb}
 use lib.ListN.{length, take}
 use borrow.Author.Tests.{le-leb, lt-leb}
 use Rattle.willow.specs.declared.Limits.{Limits}
@@ -26,10 +28,15 @@ common-within a j q r = let h = common-means (pathIn a j) q .of-first in let c =
 
 module _ (L : Limits) (b : List ℕ) (k : ℕ) (fine : pathRefusal L b k ≡ none) where
   pub prefix-asked : (n : ℕ) → n ≤ k → value (pathIn b n) ≡ onPath L b k (prefixOf n)
-  prefix-asked n h = rw (← asked L b k fine (prefixOf n), counted L b k fine, le-leb n k h, prefix-in b k n h)
+  prefix-asked n h =
+      ap value (sym (prefix-in b k n h))
+      ∙ ap (λ t. cond t (value (take n (pathIn b k))) absent) (sym (ap (leb n) (counted L b k fine) ∙ le-leb n k h))
+      ∙ asked L b k fine (prefixOf n)
 
   pub prefix-none : (n : ℕ) → k < n → absent ≡ onPath L b k (prefixOf n)
-  prefix-none n h = rw (← asked L b k fine (prefixOf n), counted L b k fine, lt-leb n k h)
+  prefix-none n h =
+      ap (λ t. cond t (value (take n (pathIn b k))) absent) (sym (ap (leb n) (counted L b k fine) ∙ lt-leb n k h))
+      ∙ asked L b k fine (prefixOf n)
 
 -- WRITING A PREFIX. Its packed form is as long as the code says.
 pub prefix-size : (b : List ℕ) (n len : ℕ) → Readable b n → len ≡ pathLength (pathIn b n) → length (pack (pathIn b n)) ≡ 8 + 8 * n + len
