@@ -1,2 +1,1 @@
-pub mod BoundLaws
 pub mod LentPathLaws

@@ -4,6 +4,7 @@
 use packed::inner as paths;
 use path_bounds::PathEnd;
 use path_bounds::inner;
+use path_orders::inner as orders;
 use range_end::inner::answer;
 use willow::Asked;
 use willow::Compared;
@@ -27,7 +28,7 @@ pub fn gt_val(limits: Limits, end: PathEnd, e: &[u8], path: &[u8], count: u64) -
     let t = inner::test_end_and_path(limits, end, e, path, count);
     match t {
         Tested::Refused(r) => Asked::Refused(r),
-        Tested::Fine => answer(inner::is_above(end, e, path, count as usize)),
+        Tested::Fine => answer(orders::is_above(end, e, path, count as usize)),
     }
 }
 
@@ -38,7 +39,7 @@ pub fn compare_ends(limits: Limits, end: PathEnd, e: &[u8], end2: PathEnd, e2: &
     let t = inner::test_ends(limits, end, e, end2, e2);
     match t {
         Tested::Refused(r) => Compared::Refused(r),
-        Tested::Fine => Compared::Is(inner::order_ends(end, e, end2, e2)),
+        Tested::Fine => Compared::Is(orders::order_ends(end, e, end2, e2)),
     }
 }
 
@@ -49,7 +50,7 @@ pub fn end_equals(limits: Limits, end: PathEnd, e: &[u8], path: &[u8], count: u6
     let t = inner::test_end_and_path(limits, end, e, path, count);
     match t {
         Tested::Refused(r) => Asked::Refused(r),
-        Tested::Fine => match inner::order_end(end, e, path, count as usize) {
+        Tested::Fine => match orders::order_end(end, e, path, count as usize) {
             Order::Less => Asked::No,
             Order::Equal => Asked::Yes,
             Order::Greater => Asked::No,
@@ -64,7 +65,7 @@ pub fn compare_end(limits: Limits, end: PathEnd, e: &[u8], path: &[u8], count: u
     let t = inner::test_end_and_path(limits, end, e, path, count);
     match t {
         Tested::Refused(r) => Compared::Refused(r),
-        Tested::Fine => Compared::Is(inner::order_end(end, e, path, count as usize)),
+        Tested::Fine => Compared::Is(orders::order_end(end, e, path, count as usize)),
     }
 }
 

@@ -11,6 +11,7 @@ pub use path_end::compare_ends;
 pub use path_end::compare_value;
 pub use path_end::end_equals;
 pub use path_end::gt_val;
+use path_orders::inner as orders;
 pub use path_range_intersection::EndSide;
 pub use path_range_intersection::Side;
 pub use path_range_intersection::SidesMet;
@@ -108,7 +109,7 @@ pub fn includes(
     let t = inner::test_range_and_path(limits, range, s, e, path, count);
     match t {
         Tested::Refused(r) => Asked::Refused(r),
-        Tested::Fine => answer(inner::includes(range, s, e, path, count as usize)),
+        Tested::Fine => answer(orders::includes(range, s, e, path, count as usize)),
     }
 }
 
@@ -127,7 +128,7 @@ pub fn includes_range(
     let t = inner::test_ranges(limits, range, s, e, range2, s2, e2);
     match t {
         Tested::Refused(r) => Asked::Refused(r),
-        Tested::Fine => answer(inner::includes_range(range, s, e, range2, s2, e2)),
+        Tested::Fine => answer(orders::includes_range(range, s, e, range2, s2, e2)),
     }
 }
 
@@ -146,6 +147,6 @@ pub fn compare(
     let t = inner::test_ranges(limits, range, s, e, range2, s2, e2);
     match t {
         Tested::Refused(r) => Compared::Refused(r),
-        Tested::Fine => Compared::Is(inner::compare(range, s, e, range2, s2, e2)),
+        Tested::Fine => Compared::Is(orders::compare(range, s, e, range2, s2, e2)),
     }
 }

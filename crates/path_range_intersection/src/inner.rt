@@ -6,7 +6,7 @@ use crate::SidesMet;
 use packed::inner as paths;
 use path_bounds::PathEnd;
 use path_bounds::PathRange;
-use path_bounds::inner as bounds;
+use path_orders::inner as bounds;
 use willow::Order;
 ghost use mathlib.Core.Path.{_≡_};
 ghost use Rattle.willow.specs.Answers.{pathIn};

@@ -1,1 +1,1 @@
-pub mod LentRange3dLaws
+pub mod FullLaws

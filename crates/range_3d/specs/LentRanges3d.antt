@@ -1,13 +1,11 @@
 -- 3d ranges as the code has them: a struct, and the lent buffers of its paths beside it. The questions are defined in `willow`.
 use Prim.Native.Nat.{ℕ}
-use mathlib.Core.Bool.{Bool, false, _||_}
 use mathlib.Core.List.{List, [], _∷_, _++_}
 use Rattle.willow.specs.declared.Limits.{Limits}
 use Rattle.willow.specs.Answers.{pathIn}
-use Rattle.willow.specs.Paths.{Path, comparePaths, isPrefixOf}
-use Rattle.willow.specs.Ranges.{Range, includes}
+use Rattle.willow.specs.Paths.{Path}
 use Rattle.willow.specs.Ranges3d.{Range3d}
-use Rattle.willow.specs.Refusals.{Outcome, refused, absent, value}
+use Rattle.willow.specs.Refusals.{Outcome}
 use Rattle.range.specs.NumberRanges.{rangeOf}
 use Rattle.path_bounds.specs.LentPaths.{onLent}
 use Rattle.path_bounds.specs.LentRanges.{pathRangeOf, rangePaths}
@@ -24,13 +22,3 @@ onRange3d L r s e b k f = onLent L (rangePaths (r .paths) s e ++ ((b, k) ∷ [])
 abbrev pub onRanges3d : {A : Type 0} → Limits → code.Range3d → List ℕ → List ℕ → code.Range3d → List ℕ → List ℕ
     → (Range3d → Range3d → Outcome A) → Outcome A
 onRanges3d L r s e r2 s2 e2 f = onLent L (rangePaths (r .paths) s e ++ rangePaths (r2 .paths) s2 e2) (f (range3dOf r s e) (range3dOf r2 s2 e2))
-
--- The path's part in the Rust's rule for pruning: included, or related to the start.
-abbrev pub reachesPath : Range Path → Path → Bool
-reachesPath r p = includes comparePaths r p || (isPrefixOf p (r .start) || isPrefixOf (r .start) p)
-
--- An answer as a test.
-abbrev pub isYes : Outcome Bool → Bool
-isYes (refused r) = false
-isYes absent = false
-isYes (value b) = b

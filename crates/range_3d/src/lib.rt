@@ -1,8 +1,6 @@
 // 3d ranges (grouping/range_3d.rs): three ranges, of subspaces, paths and times. A 3d range is a struct beside the lent buffers of
 // its paths: `s` holds the start and `e` the end. The questions on 3d ranges are the calls of crate `range_3d_questions`.
 
-pub mod inner;
-
 use path_bounds::PathRange;
 use range::Range;
 ghost use mathlib.Core.List.{List};

@@ -4,7 +4,7 @@
 use entry::Head;
 use path_bounds::inner as bounds;
 use range_3d::Range3d;
-use range_3d::inner;
+use range_3d_answers::inner;
 use willow::Asked;
 use willow::Compared;
 use willow::Limits;

@@ -1,5 +1,5 @@
 -- The three ranges are full, whatever buffers stand beside them.
-use Rattle.range_3d.proofs.LentRange3dLaws.{full-made}
+use Rattle.range_3d.proofs.FullLaws.{full-made}
 use borrow.Author.Needs.{needs}
 use Rattle.range_3d.proofs.new_full.Statement.{statement}
 use Rattle.range_3d.proofs.new_full.Tie as tie
