@@ -1,7 +1,7 @@
 -- Each case as its number.
 use borrow.Author.Needs.{needs}
-use Rattle.host_path_range_intersection.proofs.side_number.Statement.{statement}
-use Rattle.host_path_range_intersection.proofs.side_number.Tie as tie
+use Rattle.side_kinds.proofs.side_number.Statement.{statement}
+use Rattle.side_kinds.proofs.side_number.Tie as tie
 
 enum-told : tie.Need-enum-told
 enum-told c = search needs
