@@ -11,12 +11,11 @@ use Rattle.willow.specs.declared.Refusal.{Refusal}
 use Rattle.willow.specs.declared.Refusal.the-variants.{BadKind, BadSheet, NoRoom}
 use Rattle.willow.specs.declared.Tested.{Tested}
 use Rattle.willow.specs.declared.Tested.the-variants as tested
-use Rattle.willow.specs.Answers.{testedRefusal, unless, limitsRefusal, lentRefusal, pathIn, pathRefusal}
-use Rattle.willow.specs.Limits.{Accepted}
+use Rattle.willow.specs.Answers.{testedRefusal, unless, lentRefusal, pathIn, pathRefusal}
 use Rattle.willow.specs.Numbers.{Bytes}
 use Rattle.willow.specs.Paths.{pathLength}
 use Rattle.willow.specs.Refusals.{Outcome, refused, value}
-use Rattle.willow.proofs.AnswerLaws.{path-passed}
+use Rattle.willow.proofs.AnswerLaws.{path-passed, limits-fine}
 use Rattle.willow.proofs.LimitLaws.{limit-laws}
 use Rattle.willow.proofs.PackedLaws.{pack-length, unpack-valid}
 use Rattle.willow.proofs.ValidLaws.{valid-take}
@@ -47,10 +46,6 @@ InsertCase s x o t = (o ≡ insertAnswer s x) × (t ≡ insertLeaves s x)
 -- The rule of an area's parts, the buffer of its path and a value.
 abbrev pub ruleOf : Parts → List ℕ → ℕ → Rule
 ruleOf a b v = record { area = areaWith a (pathIn b (a .count)); value = v }
-
-limits-fine : (L : Limits) → Accepted L → limitsRefusal L ≡ none
-unfolding limitsRefusal
-limits-fine L a = rw (limit-laws .limits-means L .1 a)
 
 -- THE PATH. It is packed in no more bytes than a cell has.
 pub path-fits : (L : Limits) (b : List ℕ) (k : ℕ) → Bytes b → pathRefusal L b k ≡ none → 8 + 8 * k + pathLength (pathIn b k) ≤ cellSizeOf L

@@ -16,9 +16,8 @@ use Rattle.willow.specs.Lists.{All}
 use Rattle.willow.specs.Packed.{lent}
 use Rattle.willow.specs.Paths.{Path}
 use Rattle.willow.specs.Refusals.{Outcome, refused}
+use Rattle.willow.proofs.AnswerLaws as limits
 use Rattle.willow.proofs.AnswerLaws.{accepted-words, or-else-none}
-use Rattle.willow.proofs.Bools.{decided-false}
-use Rattle.willow.proofs.LimitLaws.{limit-laws}
 use Rattle.willow.proofs.PackedLaws.{packed-form}
 use Rattle.packed.specs.Readable.{Readable}
 use Rattle.lent_path.proofs.TestLaws.{readable}
@@ -138,11 +137,11 @@ closed-readable d e k h r = rw h at r
 -- WHAT THE QUESTIONS MEAN. Limits that are not accepted are refused first; accepted ones leave the paths to be judged.
 limits-refused : (L : Limits) (ps : List LentPath) → (Accepted L → ⊥) → lentPathsRefusal L ps ≡ some BadLimits
 unfolding lentPathsRefusal
-limits-refused L ps n = rw (limits-fail L (decided-false (acceptedLimits L) (limit-laws .limits-means L) .1 n))
+limits-refused L ps n = rw (limits.limits-refused L n)
 
 limits-fine : (L : Limits) (ps : List LentPath) → Accepted L → lentPathsRefusal L ps ≡ anyBadPath L ps
 unfolding lentPathsRefusal
-limits-fine L ps a = rw (limits-pass L (limit-laws .limits-means L .1 a))
+limits-fine L ps a = rw (limits.limits-fine L a)
 
 -- Paths that are all lent pass; and if not all are, the first that is none is refused.
 all-lent : (L : Limits) (ps : List LentPath) → All HoldsBytes ps → Accepted L → All (IsLent L) ps → anyBadPath L ps ≡ none
