@@ -12,6 +12,7 @@ use lib.Seq.{take-at, drop-at, drop-drop, take-add}
 use borrow.Author.Tests.{le-leb, leb-true, eq-eqb, eqb-true}
 use Rattle.number.specs.Overwriting.{zeros, allZero}
 use Rattle.number.proofs.OverwritingLaws.{length-part, length-zeros, all-zero-exactly, all-zero-zeros}
+use Rattle.packed.specs.Steps.{stepsWithin}
 use Rattle.willow.specs.Limits.{maxWord}
 use Rattle.willow.specs.Lists.{All}
 use Rattle.willow.specs.Numbers.{Bytes, le, numberAt}
@@ -20,7 +21,7 @@ use Rattle.willow.specs.Paths.{Component, Path, pathLength}
 use Rattle.willow.proofs.Bools.{both-true}
 use Rattle.willow.proofs.NumberLaws.{le-length, number-here, number-bytes}
 use Rattle.willow.proofs.PackedLaws.{accumulated-length, joined-length, components-count}
-use Rattle.builder_parts.specs.Buffer.{sizeOf, partial, stepsWithin, agreesWith, componentsIn}
+use Rattle.builder_parts.specs.Buffer.{sizeOf, partial, agreesWith, componentsIn}
 
 -- THE AGREEMENT, taken apart.
 pub record Agreed (mcl most count appended : ℕ) (out : List ℕ) : Type 0 where

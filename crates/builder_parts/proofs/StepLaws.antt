@@ -1,6 +1,6 @@
--- The tests of a builder's buffer, each by the ways out of the code that makes it: the length, the steps of the table from a
--- place on, and the agreement one test behind the other.
-use Prim.Native.Nat.{ℕ, zero, suc, _+_, _-_, _*_, _/_, _≤_, _<_}
+-- The tests of a builder's buffer, each by the ways out of the code that makes it: the length, and the agreement one test behind
+-- the other.
+use Prim.Native.Nat.{ℕ, _+_, _-_, _*_, _/_, _≤_, _<_}
 use mathlib.Core.Path.{_≡_, refl}
 use mathlib.Core.List.{List}
 use mathlib.Core.Bool.{Bool, true, false}
@@ -9,8 +9,9 @@ use lib.Dec.{leb}
 use lib.ListN.{take, drop}
 use borrow.Author.Tests.{le-leb, lt-leb, leb-true, leb-false, eq-eqb, ne-eqb}
 use Rattle.number.specs.Overwriting.{allZero}
+use Rattle.packed.specs.Steps.{stepsWithin}
 use Rattle.willow.specs.Numbers.{numberAt}
-use Rattle.builder_parts.specs.Buffer.{sizeOf, stepsWithin, agreesWith}
+use Rattle.builder_parts.specs.Buffer.{sizeOf, agreesWith}
 
 -- THE LENGTH. Too short for the count; for the table; else what is left is compared with the bytes.
 module _ (bytes count size : ℕ) where
@@ -29,28 +30,6 @@ module _ (bytes count size : ℕ) where
       go : (t : Bool) → leb bytes (size - 8 - 8 * count) ≡ t → leb (8 + 8 * count + bytes) size ≡ t
       go true e = let l = leb-true bytes (size - 8 - 8 * count) e in le-leb (8 + 8 * count + bytes) size (omega arith)
       go false e = let l = leb-false bytes (size - 8 - 8 * count) e in lt-leb (8 + 8 * count + bytes) size (omega arith)
-
--- THE STEPS. A length that falls; one that steps over MCL; one that steps as it should; the end.
-module _ (mcl most : ℕ) (b : List ℕ) (at from : ℕ) where
-  pub steps-fall : (left next : ℕ) → 0 < left → next ≡ numberAt b at → next < from → stepsWithin mcl most b left at from ≡ false
-  steps-fall zero n h e p = absurd (omega arith)
-  steps-fall (suc r) n h e p = rw (← e, lt-leb from n p)
-
-  pub steps-wide : (left next : ℕ) → 0 < left → next ≡ numberAt b at → from ≤ next → mcl < next - from
-      → stepsWithin mcl most b left at from ≡ false
-  steps-wide zero n h e p q = absurd (omega arith)
-  steps-wide (suc r) n h e p q = rw (← e, le-leb from n p, lt-leb (n - from) mcl q)
-
-  pub steps-on : (left next : ℕ) → 0 < left → next ≡ numberAt b at → from ≤ next → next - from ≤ mcl
-      → stepsWithin mcl most b left at from ≡ stepsWithin mcl most b (left - 1) (at + 8) next
-  steps-on zero n h e p q = absurd (omega arith)
-  steps-on (suc r) n h e p q =
-      let m : suc r - 1 ≡ r = omega arith in
-      rw (m, ← e, le-leb from n p, le-leb (n - from) mcl q)
-
-  pub steps-end : (left : ℕ) → left ≤ 0 → stepsWithin mcl most b left at from ≡ leb from most
-  steps-end zero h = refl
-  steps-end (suc r) h = absurd (omega arith)
 
 -- THE AGREEMENT. Another count; more appended than declared; wrong steps; else the lengths to come decide.
 module _ (mcl most count appended : ℕ) (out : List ℕ) (held : ℕ) (e : held ≡ numberAt out 0) where

@@ -2,13 +2,14 @@
 --
 -- "Its buffer, if shorter than the declared path, gets 15; else it agrees if it holds the declared count, well-formed lengths
 -- of the components appended, no more than declared, and zeros for the lengths to come."
-use Prim.Native.Nat.{ℕ, zero, suc, _+_, _-_, _*_, _≤_, _<_}
+use Prim.Native.Nat.{ℕ, _+_, _-_, _*_, _≤_, _<_}
 use mathlib.Core.Path.{_≡_}
 use mathlib.Core.List.{List, _++_}
 use mathlib.Core.Bool.{Bool, true, _&&_}
 use lib.Dec.{leb, eqb}
 use lib.ListN.{length, take, drop}
 use Rattle.number.specs.Overwriting.{zeros, allZero}
+use Rattle.packed.specs.Steps.{stepsWithin}
 use Rattle.willow.specs.Numbers.{le, numberAt}
 use Rattle.willow.specs.Packed.{accumulated, joined, componentsFrom}
 use Rattle.willow.specs.Paths.{Component, Path, pathLength}
@@ -22,13 +23,7 @@ sizeOf bytes count = 8 + 8 * count + bytes
 unfoldable pub partial : ℕ → Path → List ℕ
 partial count q = le 8 count ++ (accumulated 0 q ++ (zeros (8 * (count - length q)) ++ joined q))
 
--- COMPUTED. The r accumulated lengths from `at` on step up from `from` by at most mcl, and the last is at most `most`:
-abbrev pub stepsWithin : ℕ → ℕ → List ℕ → ℕ → ℕ → ℕ → Bool
-stepsWithin mcl most b zero at from = leb from most
-stepsWithin mcl most b (suc r) at from =
-    leb from (numberAt b at) && (leb (numberAt b at - from) mcl && stepsWithin mcl most b r (at + 8) (numberAt b at))
-
--- A buffer with a table of `count` lengths agrees, if of these `appended` are those of components, of at most `most` bytes:
+-- COMPUTED. A buffer with a table of `count` lengths agrees, if of these `appended` are those of components, of at most `most` bytes:
 unfoldable pub agreesWith : ℕ → ℕ → ℕ → ℕ → List ℕ → Bool
 agreesWith mcl most count appended out =
     eqb (numberAt out 0) count

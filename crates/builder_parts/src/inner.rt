@@ -10,7 +10,7 @@ ghost use Rattle.number.specs.Overwriting.{overwrite};
 ghost use Rattle.packed.specs.Readable.{Readable};
 ghost use Rattle.willow.specs.Answers.{pathIn};
 ghost use Rattle.willow.specs.Paths.{pathLength};
-ghost use Rattle.builder_parts.specs.Buffer.{agreesWith, componentsIn, Next, partial, sizeOf, stepsWithin};
+ghost use Rattle.builder_parts.specs.Buffer.{agreesWith, componentsIn, Next, partial, sizeOf};
 
 // Whether a buffer is long enough for a path of so many bytes and components. What is left of it is compared, so that no sum
 // can wrap.
@@ -27,29 +27,6 @@ pub fn long_enough(bytes: u64, count: u64, out: &[u8]) -> bool
     bytes <= room - 8 * count
 }
 
-// Whether the n accumulated lengths behind the count step up by at most MCL, and the last is at most `most`.
-fn steps_within(mcl: u64, most: u64, out: &[u8], n: usize) -> bool
-    requires { ⌜ 8 + 8 * n ≤ length (now out) ⌝ }
-    ensures { λ r. ⌜ r ≡ stepsWithin mcl most (now (out .entry)) n 8 0 ⌝ }
-{
-    let mut from: u64 = 0;
-    let mut at: usize = 8;
-    let mut left = n;
-    while 0 < left {
-        let next = number::read_u64(out, at);
-        if next < from {
-            return false;
-        }
-        if mcl < next - from {
-            return false;
-        }
-        from = next;
-        at += 8;
-        left -= 1;
-    }
-    from <= most
-}
-
 // Whether a buffer with room for its table agrees with the counts. Each number of the table is read once: the lengths that are
 // there by their steps, those to come as zero bytes.
 pub fn agrees(mcl: u64, most: u64, count: u64, appended: u64, out: &[u8]) -> bool
@@ -64,7 +41,7 @@ pub fn agrees(mcl: u64, most: u64, count: u64, appended: u64, out: &[u8]) -> boo
         return false;
     }
     let n = appended as usize;
-    if steps_within(mcl, most, out, n) {
+    if packed::inner::steps_within(mcl, most, out, n) {
         let from = 8 + 8 * n;
         let end = 8 + 8 * count as usize;
         return number::is_zero(&out[from..end]);

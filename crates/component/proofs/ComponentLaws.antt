@@ -11,7 +11,7 @@ use lib.Seq.{drop-drop, drop-cons, take-all}
 use Rattle.willow.specs.declared.Order.{Order}
 use Rattle.willow.specs.declared.Order.the-variants.{Less, Equal, Greater}
 use Rattle.willow.specs.Numbers.{Bytes, le, numberAt}
-use Rattle.willow.specs.Orders.{isEqual, then, compareNumbers, compareLists}
+use Rattle.willow.specs.Orders.{Total, isEqual, then, compareNumbers, compareLists}
 use Rattle.willow.specs.Paths.{compareComponents}
 use Rattle.willow.proofs.NumberLaws.{number-bytes}
 use Rattle.willow.proofs.OrderLaws.{numbers-total, lists-after}
@@ -23,6 +23,16 @@ module _ {A : Type 0} (compare : A → A → Order) (x y : List A) (i : ℕ) whe
   pub lists-by : (d : A) (o : Order) → i < length x → i < length y → o ≡ compare (getD x i d) (getD y i d)
       → compareLists compare (drop i x) (drop i y) ≡ then o (compareLists compare (drop (i + 1) x) (drop (i + 1) y))
   lists-by d o p q e = rw (add-one i, drop-cons x i d p, drop-cons y i d q, e)
+
+  -- elements at i that are not the same decide
+  pub lists-differ : Total compare → (d : A) (o : Order) → i < length x → i < length y → o ≡ compare (getD x i d) (getD y i d)
+      → (getD x i d ≡ getD y i d → ⊥) → compareLists compare (drop i x) (drop i y) ≡ o
+  lists-differ t d o p q e n = lists-by d o p q e ∙ go o e
+    where
+      go : (v : Order) → v ≡ compare (getD x i d) (getD y i d) → then v (compareLists compare (drop (i + 1) x) (drop (i + 1) y)) ≡ v
+      go Less e = refl
+      go Equal e = absurd (n (t .same (getD x i d) (getD y i d) (sym e)))
+      go Greater e = refl
 
   -- the second has ended, the first has, both have
   pub lists-longer : (d : A) → i < length x → length y ≤ i → compareLists compare (drop i x) (drop i y) ≡ Greater

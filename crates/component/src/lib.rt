@@ -97,7 +97,7 @@ fn agree8(x: &[u8], y: &[u8], n: usize, from: usize) -> usize
     i
 }
 
-// Byte by byte.
+// Byte by byte. Whether two bytes are the same is asked first, which is all that most turns need to know.
 fn compare_rest(x: &[u8], y: &[u8]) -> Order
     ensures { λ r. ⌜ r ≡ compareComponents (now (x .entry)) (now (y .entry)) ⌝ }
 {
@@ -106,12 +106,11 @@ fn compare_rest(x: &[u8], y: &[u8]) -> Order
         if y.len() <= i {
             return Order::Greater;
         }
-        match compare_bytes(x[i], y[i]) {
-            Order::Less => return Order::Less,
-            Order::Greater => return Order::Greater,
-            Order::Equal => {}
+        if x[i] == y[i] {
+            i += 1;
+        } else {
+            return compare_bytes(x[i], y[i]);
         }
-        i += 1;
     }
     if i < y.len() {
         Order::Less

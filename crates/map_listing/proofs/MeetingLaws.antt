@@ -1,6 +1,6 @@
 -- The rules that meet an area, one after the other: the positions that are left to be counted or written from rule i on, in the
 -- code's index. What is left from 0 on is the whole listing.
-use Prim.Native.Nat.{ℕ, suc, _+_, _*_, _≤_, _<_}
+use Prim.Native.Nat.{ℕ, suc, _+_, _*_, _/_, _≤_, _<_}
 use mathlib.Core.Path.{_≡_, refl, sym, _∙_, ap}
 use mathlib.Core.List.{List, [], _∷_, _++_}
 use mathlib.Core.Bool.{Bool, true, false, cond}
@@ -90,14 +90,16 @@ module _ (a : Area) (rules : List Rule) where
   pub record Writing (before out : List ℕ) (at i : ℕ) : Type 0 where
     pub within : i ≤ length rules
     pub long : length out ≡ length before
-    pub room : at + 8 * length (left i) ≤ length before
+    pub fits : 8 * length (positions a rules) ≤ length before
+    pub place : at + 8 * length (left i) ≡ 8 * length (positions a rules)
     pub same : overwrite out at (laid (le 8) (left i)) ≡ overwrite before 0 (laid (le 8) (positions a rules))
 
   pub writing-starts : (before : List ℕ) → 8 * length (positions a rules) ≤ length before → Writing before before 0 0
   writing-starts before h = record {
     within = omega arith;
     long = refl;
-    room = let l = ap length left-all in omega arith;
+    fits = h;
+    place = let l = ap length left-all in omega arith;
     same = ap (λ l. overwrite before 0 (laid (le 8) l)) left-all;
   }
 
@@ -106,14 +108,16 @@ module _ (a : Area) (rules : List Rule) where
     pub room-here : meets a (getD rules i noRule) ≡ true → at + 8 ≤ length out
     room-here e =
         let l = ap length (left-meets i h e) in
-        let r = k .room in
+        let r = k .place in
+        let f = k .fits in
         let n = k .long in
         omega arith
 
     pub writes : meets a (getD rules i noRule) ≡ true → (next : List ℕ) → next ≡ overwrite out at (le 8 i) → Writing before next (at + 8) (i + 1)
     writes e next w =
         let l = ap length (left-meets i h e) in
-        let r = k .room in
+        let r = k .place in
+        let f = k .fits in
         let n = k .long in
         let z = le-length 8 i in
         let inside : at + length (le 8 i) ≤ length out = omega arith in
@@ -121,7 +125,8 @@ module _ (a : Area) (rules : List Rule) where
         record {
           within = omega arith;
           long = ap length w ∙ length-overwrite out at (le 8 i) inside ∙ n;
-          room = omega arith;
+          fits = f;
+          place = omega arith;
           same =
               ap (λ t. overwrite t (at + 8) (laid (le 8) (left (i + 1)))) w
               ∙ ap (λ p. overwrite (overwrite out at (le 8 i)) p (laid (le 8) (left (i + 1)))) (sym end)
@@ -133,13 +138,20 @@ module _ (a : Area) (rules : List Rule) where
     pub writes-none : meets a (getD rules i noRule) ≡ false → Writing before out at (i + 1)
     writes-none e =
         let l = ap length (left-misses i h e) in
-        let r = k .room in
+        let r = k .place in
         record {
           within = omega arith;
           long = k .long;
-          room = omega arith;
+          fits = k .fits;
+          place = omega arith;
           same = ap (λ t. overwrite out at (laid (le 8) t)) (sym (left-misses i h e)) ∙ k .same;
         }
+
+  pub places-all : (before out : List ℕ) (at i : ℕ) → Writing before out at i → length rules ≤ i → at / 8 ≡ length (positions a rules)
+  places-all before out at i k h =
+      let l = ap length (left-end i h) in
+      let r = k .place in
+      omega arith
 
   pub written-all : (before out : List ℕ) (at i : ℕ) → Writing before out at i → length rules ≤ i
       → out ≡ overwrite before 0 (laid (le 8) (positions a rules))

@@ -54,10 +54,11 @@ fn count_meeting(sheet: &[u8], area: Area, base: &[u8]) -> usize
     found
 }
 
-// The positions of these rules written to the front of a buffer that has room for all of them.
-fn write_meeting(sheet: &[u8], area: Area, base: &[u8], out: &mut [u8])
+// The positions of these rules written to the front of a buffer that has room for all of them; answers how many.
+fn write_meeting(sheet: &[u8], area: Area, base: &[u8], out: &mut [u8]) -> usize
     requires { ⌜ (isMap (now sheet) ≡ true) × Readable (now base) (area .count) ⌝ }
     requires { ⌜ 8 * length (positions (areaIn area (now base)) (rulesIn (now sheet))) ≤ length (now out) ⌝ }
+    ensures { λ r. ⌜ r ≡ length (positions (areaIn area (now (base .entry))) (rulesIn (now (sheet .entry)))) ⌝ }
     ensures { λ _. ⌜ now (out .exit) ≡ overwrite (now (out .entry)) 0 (laid (le 8) (positions (areaIn area (now (base .entry))) (rulesIn (now (sheet .entry))))) ⌝ }
 {
     let n = number::read_u64(sheet, COUNT_AT) as usize;
@@ -70,18 +71,22 @@ fn write_meeting(sheet: &[u8], area: Area, base: &[u8], out: &mut [u8])
         }
         i += 1;
     }
+    at / 8
 }
 
-// The positions if all of them fit, else 15: they are counted first, so that nothing is written unless all fit.
+// The positions if all of them fit, else 15. Nothing is written unless all fit: so they are counted first, unless there is room for
+// every rule.
 pub fn list(sheet: &[u8], area: Area, base: &[u8], out: &mut [u8]) -> Counted
     requires { ⌜ (isMap (now sheet) ≡ true) × Readable (now base) (area .count) ⌝ }
     ensures { λ r. ⌜ countedOutcome r ≡ listedNumber (value (positions (areaIn area (now (base .entry))) (rulesIn (now (sheet .entry))))) (now (out .entry)) ⌝ }
     ensures { λ _. ⌜ now (out .exit) ≡ writtenBuffer (listedBytes (value (positions (areaIn area (now (base .entry))) (rulesIn (now (sheet .entry)))))) (now (out .entry)) ⌝ }
 {
-    let found = count_meeting(sheet, area, base);
-    if out.len() < 8 * found {
-        return Counted::Refused(Refusal::OutTooSmall);
+    let most = number::read_u64(sheet, COUNT_AT) as usize;
+    if out.len() / 8 < most {
+        let found = count_meeting(sheet, area, base);
+        if out.len() < 8 * found {
+            return Counted::Refused(Refusal::OutTooSmall);
+        }
     }
-    write_meeting(sheet, area, base, out);
-    Counted::Count(found as u64)
+    Counted::Count(write_meeting(sheet, area, base, out) as u64)
 }

@@ -1,3 +1,4 @@
 pub mod FormLaws
 pub mod PrefixLaws
+pub mod StepLaws
 pub mod WalkLaws

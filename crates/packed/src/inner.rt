@@ -3,7 +3,7 @@
 
 use willow::Limits;
 use willow::Order;
-ghost use mathlib.Core.Bool.{_&&_};
+ghost use mathlib.Core.Bool.{_&&_, true};
 ghost use mathlib.Core.List.{[]};
 ghost use mathlib.Core.Path.{_≡_};
 ghost use Prim.Native.Nat.{_*_, _+_, _<_, _≤_};
@@ -14,31 +14,82 @@ ghost use Rattle.willow.specs.Orders.{isEqual};
 ghost use Rattle.willow.specs.Packed.{lengthBefore, pack, Packed, packedCount, stepsFit, unpack, wellFormed};
 ghost use Rattle.willow.specs.Paths.{commonCount, comparePaths, isPrefixOf, isRelated, pathLength};
 ghost use Rattle.packed.specs.Readable.{Readable};
+ghost use Rattle.packed.specs.Steps.{stepsWithin};
+
+// The bits of either number: as a number no smaller than each.
+fn either(a: u64, b: u64) -> u64
+    ensures { λ r. ⌜ (a ≤ r) × (b ≤ r) ⌝ }
+{
+    a | b
+}
+
+// Whether the bits of all steps together are at most MCL as a number. Then so is each step; but steps that are within may fail.
+// They are taken modulo 2^64: with fewer than 2^32 of them, and each below 2^32, no sum wraps, so no length falls. The loop is not
+// left early, so that it is compiled to wide reads.
+fn bits_within(mcl: u64, most: u64, b: &[u8], n: usize) -> bool
+    requires { ⌜ 8 + 8 * n ≤ length (now b) ⌝ }
+    ensures { λ r. ⌜ (r ≡ true → stepsWithin mcl most (now (b .entry)) n 8 0 ≡ true) ⌝ }
+{
+    if 4294967295 < mcl {
+        return false;
+    }
+    if 4294967295 < n {
+        return false;
+    }
+    let end = 8 + 8 * n;
+    let mut bits: u64 = 0;
+    let mut from: u64 = 0;
+    let mut at: usize = 8;
+    while at < end {
+        let next = number::read_u64(b, at);
+        bits = either(bits, std::num::wrapping_sub_u64(next, from));
+        from = next;
+        at += 8;
+    }
+    if most < from {
+        return false;
+    }
+    bits <= mcl
+}
+
+// Whether the n accumulated lengths behind the count step up by at most MCL, and the last is at most `most`. A long table is
+// tested by the bits of its steps first.
+pub fn steps_within(mcl: u64, most: u64, b: &[u8], n: usize) -> bool
+    requires { ⌜ 8 + 8 * n ≤ length (now b) ⌝ }
+    ensures { λ r. ⌜ r ≡ stepsWithin mcl most (now (b .entry)) n 8 0 ⌝ }
+{
+    if 16 <= n {
+        if bits_within(mcl, most, b, n) {
+            return true;
+        }
+    }
+    let end = 8 + 8 * n;
+    let mut from: u64 = 0;
+    let mut at: usize = 8;
+    while at < end {
+        let next = number::read_u64(b, at);
+        if next < from {
+            return false;
+        }
+        if mcl < next - from {
+            return false;
+        }
+        from = next;
+        at += 8;
+    }
+    from <= most
+}
 
 // Whether the n accumulated lengths behind the count step as they should, and end where the bytes do.
 fn steps_fit(limits: Limits, b: &[u8], n: usize) -> bool
     requires { ⌜ 8 + 8 * n ≤ length (now b) ⌝ }
     ensures { λ r. ⌜ r ≡ stepsFit limits (now (b .entry)) n 8 0 ⌝ }
 {
-    let mut from: u64 = 0;
-    let mut at: usize = 8;
-    let mut left = n;
-    while 0 < left {
-        let next = number::read_u64(b, at);
-        if next < from {
-            return false;
-        }
-        if limits.mcl < next - from {
-            return false;
-        }
-        from = next;
-        at += 8;
-        left -= 1;
+    let bytes = b.len() - (8 + 8 * n);
+    if length_before(b, n) == bytes {
+        return steps_within(limits.mcl, limits.mpl, b, n);
     }
-    if limits.mpl < from {
-        return false;
-    }
-    (b.len() - at) as u64 == from
+    false
 }
 
 // Whether the bytes are the packed form of a path within the limits, whatever their length and content.

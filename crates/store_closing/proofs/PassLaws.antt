@@ -1,7 +1,7 @@
 -- The pass that takes rows out: rows below i were looked at, and the first k hold those of them that stay. What is left to do gives
 -- from here what it gave from the start, and all rows in use still hold paths, since a row is written over by one that holds one.
 use Prim.Native.Nat.{ℕ, suc, _+_, _-_, _≤_, _<_}
-use mathlib.Core.Path.{_≡_, refl, _∙_, ap}
+use mathlib.Core.Path.{_≡_, refl, sym, _∙_, ap}
 use mathlib.Core.Bool.{Bool, true, false, cond}
 use mathlib.Core.List.{List, _∷_}
 use native.Mathlib.Omega.{arith}
@@ -11,10 +11,10 @@ use Rattle.willow.specs.Lists.{All, filter}
 use Rattle.willow.specs.Numbers.{Bytes}
 use Rattle.willow.proofs.ListLaws.{all-take, all-drop}
 use Rattle.number.specs.Overwriting.{overwrite}
-use Rattle.number.proofs.OverwritingLaws.{part-of-take, drop-behind}
+use Rattle.number.proofs.OverwritingLaws.{overwrite-same, part-of-take, drop-behind}
 use Rattle.sheet.specs.Cells.{cellFits}
 use Rattle.sheet.specs.Rows.{Shape, Row, cell, zeroRow, Fitting, rowsOf, rowAt, withRows}
-use Rattle.sheet.proofs.RowLaws.{fitting-part, fitting-overwrite, fitting-rows, rows-with, with-with, length-with, room-with}
+use Rattle.sheet.proofs.RowLaws.{fitting-part, fitting-overwrite, fitting-rows, rows-whole, rows-with, with-with, length-with, room-with}
 use Rattle.store_form.specs.Stores.{storeShape}
 use Rattle.store_rows.specs.EntryRows.{sizesOf, RowsReadable}
 use Rattle.store_closing.specs.Filing.{closedUp}
@@ -29,6 +29,14 @@ rowsAt L N s = rowsOf (shapeAt L N) s
 
 abbrev pub moved : Limits → ℕ → List ℕ → ℕ → ℕ → List Row
 moved L N s i k = overwrite (rowsAt L N s) k (take 1 (drop i (rowsAt L N s)))
+
+-- a row that stands where it is to go stays as it is, and with it the whole sheet
+pub stays-put : (L : Limits) (N n : ℕ) (s : List ℕ) (i k : ℕ) → RowsReadable L N n s → i < n → i ≡ k → s ≡ withRows (shapeAt L N) s (moved L N s i k)
+stays-put L N n s i k r h e =
+    let c = fitting-rows (shapeAt L N) s (r .room) .count in
+    let few = r .count in
+    let same : moved L N s i i ≡ rowsAt L N s = overwrite-same (rowsAt L N s) i 1 (omega arith) in
+    sym (ap (λ j. withRows (shapeAt L N) s (moved L N s i j)) (sym e) ∙ ap (withRows (shapeAt L N) s) same ∙ rows-whole (shapeAt L N) s (r .room))
 
 -- the pass at row i, with k rows kept
 pub record Pass (stays : Row → Bool) (L : Limits) (N n : ℕ) (s₀ s : List ℕ) (i k : ℕ) : Type 0 where

@@ -43,7 +43,7 @@ fn prunes_row(
     entry::inner::prunes(0, head, path, count, 0, h, p, inner::component_count(p))
 }
 
-// Row i written as row k, unless the offer prunes it; answers where the next goes.
+// Row i written as row k, unless the offer prunes it or it stands there already; answers where the next goes.
 fn keep_row(
     s: &mut [u8],
     limits: Limits,
@@ -61,6 +61,9 @@ fn keep_row(
 {
     if prunes_row(s, limits, capacity, n, i, head, path, count) {
         return k;
+    }
+    if i == k {
+        return k + 1;
     }
     let size = 8 * (limits.mcc as usize + 1) + limits.mpl as usize;
     moves::rows_down(s, STORE_FRONT, STORE_HEAD, size, capacity, i, k, 1);

@@ -4,12 +4,11 @@ use mathlib.Core.Path.{_≡_, refl, sym, _∙_}
 use native.Mathlib.Omega.{arith}
 use lib.ListN.{length, drop}
 use borrow.Author.Needs.{needs}
-use denote.Ref.{now}
-use Rattle.willow.specs.declared.Order.{Order}
-use Rattle.willow.specs.declared.Order.the-variants.{Less, Equal, Greater}
-use Rattle.willow.specs.Orders.{compareNumbers, then}
+use Rattle.willow.specs.declared.Order.the-variants.{Equal}
+use Rattle.willow.specs.Orders.{compareNumbers}
 use Rattle.willow.specs.Paths.{compareComponents}
-use Rattle.component.proofs.ComponentLaws.{lists-by, lists-longer, lists-shorter, lists-ended}
+use Rattle.willow.proofs.OrderLaws.{equal-by, numbers-total}
+use Rattle.component.proofs.ComponentLaws.{lists-by, lists-differ, lists-longer, lists-shorter, lists-ended}
 use Rattle.component.proofs.compare_rest.Statement.{statement}
 use Rattle.component.proofs.compare_rest.Tie as tie
 
@@ -19,20 +18,30 @@ Inv-loop x y i₀ i = (i ≤ length x) × (compareComponents (drop i x) (drop i 
 abbrev μ-loop : tie.MeasureT-loop
 μ-loop x y i₀ i = length x - i
 
--- a turn: the answer for the bytes at i, and behind them the rest
-turned : (c : tie.After-compare-bytes Inv-loop μ-loop) (o : Order) → c .compare-bytes .result ≡ o
-    → (let a = c .before .before .before .before .before .before .before .before .args in
-    let i = c .before .before .before .before .before .loop .i in
-    then o (compareComponents (drop (i + 1) (now (a .x))) (drop (i + 1) (now (a .y)))) ≡ compareComponents (now (a .x)) (now (a .y)))
-turned c o e =
-    sym (lists-by compareNumbers _ _ _ 0 o (c .before .before .before .before .loop-test .taken) (c .before .before .before .if1 .left) (sym e ∙ c .compare-bytes .ensures))
-    ∙ c .before .before .before .before .before .loop .inv .1
-
 loop-holds : tie.Need-loop-holds Inv-loop μ-loop
 loop-holds c = (omega arith, refl)
 
 returns : tie.Need-returns Inv-loop μ-loop
 returns c = sym (lists-longer compareNumbers _ _ _ 0 (c .before .loop-test .taken) (c .if1 .taken)) ∙ c .before .before .loop .inv .1
+
+shared-slice-read-if2 : tie.Need-shared-slice-read-if2 Inv-loop μ-loop
+shared-slice-read-if2 c = search needs
+
+shared-slice-read-if2-2 : tie.Need-shared-slice-read-if2-2 Inv-loop μ-loop
+shared-slice-read-if2-2 c = search needs
+
+add-i : tie.Need-add-i Inv-loop μ-loop
+add-i c = search needs
+
+loop-less : tie.Need-loop-less Inv-loop μ-loop
+loop-less c = search needs
+
+loop-again : tie.Need-loop-again Inv-loop μ-loop
+loop-again c = (
+  omega arith,
+  sym (lists-by compareNumbers _ _ _ 0 Equal (c .before .before .before .before .loop-test .taken) (c .before .before .before .if1 .left) (sym (equal-by compareNumbers numbers-total _ _ (c .if2 .taken))))
+      ∙ c .before .before .before .before .before .loop .inv .1,
+)
 
 shared-slice-read-compare-bytes : tie.Need-shared-slice-read-compare-bytes Inv-loop μ-loop
 shared-slice-read-compare-bytes c = search needs
@@ -43,35 +52,16 @@ shared-slice-read-compare-bytes-2 c = search needs
 compare-bytes-requires : tie.Need-compare-bytes-requires Inv-loop μ-loop
 compare-bytes-requires c κs = search needs
 
-enum-told : tie.Need-enum-told Inv-loop μ-loop
-enum-told c = search needs
-
 returns-2 : tie.Need-returns-2 Inv-loop μ-loop
-returns-2 c = turned (c .before .before) Less (c .enum-told .given .1)
-
-enum-told-2 : tie.Need-enum-told-2 Inv-loop μ-loop
-enum-told-2 c = search needs
+returns-2 c =
+    sym (lists-differ compareNumbers _ _ _ numbers-total 0 _ (c .before .before .before .before .before .before .before .loop-test .taken) (c .before .before .before .before .before .before .if1 .left) (c .compare-bytes .ensures) (c .before .before .before .if2 .left))
+    ∙ c .before .before .before .before .before .before .before .before .loop .inv .1
 
 returns-3 : tie.Need-returns-3 Inv-loop μ-loop
-returns-3 c = turned (c .before .before) Greater (c .enum-told2 .given .1)
-
-enum-told-3 : tie.Need-enum-told-3 Inv-loop μ-loop
-enum-told-3 c = search needs
-
-add-i : tie.Need-add-i Inv-loop μ-loop
-add-i c = search needs
-
-loop-less : tie.Need-loop-less Inv-loop μ-loop
-loop-less c = search needs
-
-loop-again : tie.Need-loop-again Inv-loop μ-loop
-loop-again c = (omega arith, turned (c .before .before) Equal (c .enum-told3 .given .1))
+returns-3 c = sym (lists-shorter compareNumbers _ _ _ 0 (c .before .loop-test .left) (c .if3 .taken)) ∙ c .before .before .loop .inv .1
 
 returns-4 : tie.Need-returns-4 Inv-loop μ-loop
-returns-4 c = sym (lists-shorter compareNumbers _ _ _ 0 (c .before .loop-test .left) (c .if2 .taken)) ∙ c .before .before .loop .inv .1
-
-returns-5 : tie.Need-returns-5 Inv-loop μ-loop
-returns-5 c = sym (lists-ended compareNumbers _ _ _ (c .before .loop-test .left) (c .if2 .left)) ∙ c .before .before .loop .inv .1
+returns-4 c = sym (lists-ended compareNumbers _ _ _ (c .before .loop-test .left) (c .if3 .left)) ∙ c .before .before .loop .inv .1
 
 pub compare-rest-spec : {M : Type 1} → statement M
 compare-rest-spec =
@@ -81,16 +71,14 @@ compare-rest-spec =
     μ-loop
     loop-holds
     returns
-    shared-slice-read-compare-bytes
-    shared-slice-read-compare-bytes-2
-    compare-bytes-requires
-    enum-told
-    returns-2
-    enum-told-2
-    returns-3
-    enum-told-3
+    shared-slice-read-if2
+    shared-slice-read-if2-2
     add-i
     loop-less
     loop-again
-    returns-4
-    returns-5)
+    shared-slice-read-compare-bytes
+    shared-slice-read-compare-bytes-2
+    compare-bytes-requires
+    returns-2
+    returns-3
+    returns-4)

@@ -10,7 +10,7 @@ use lib.ListN.{length}
 use Rattle.area.specs.LentAreas.{areaIn}
 use Rattle.map_form.specs.Maps.{rulesIn}
 use Rattle.map_form.proofs.MapTestLaws.{map-passed}
-use Rattle.map_listing.proofs.MeetingLaws.{Writing, writing-starts, room-here, writes, writes-none, written-all}
+use Rattle.map_listing.proofs.MeetingLaws.{Writing, writing-starts, room-here, writes, writes-none, places-all, written-all}
 use Rattle.map_reading.proofs.RuleAtLaws.{rules-many, rules-few}
 use Rattle.map_listing.proofs.inner.write_meeting.Statement.{statement}
 use Rattle.map_listing.proofs.inner.write_meeting.Tie as tie
@@ -58,7 +58,11 @@ same-length : tie.Need-same-length Inv-loop μ-loop
 same-length c = c .before .loop .inv .long
 
 returns : tie.Need-returns Inv-loop μ-loop
-returns c = written-all _ _ _ _ _ _ (c .before .loop .inv) (omega (arith, c .loop-test .left, many (c .before .before)))
+returns c =
+    let k = c .before .loop .inv in
+    let e = many (c .before .before) in
+    let t = c .loop-test .left in
+    (places-all _ _ _ _ _ _ k (omega (arith, t, e)), written-all _ _ _ _ _ _ k (omega (arith, t, e)))
 
 pub write-meeting-spec : {M : Type 1} → statement M
 write-meeting-spec =
