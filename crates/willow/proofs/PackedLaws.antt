@@ -135,7 +135,9 @@ module _ (L : Limits) (b rest : List ℕ) where
   steps-pass : (p : Path) (at from : ℕ) → drop at b ≡ accumulated from p ++ rest → L .mpl ≤ maxWord → All (ValidComponent L) p
       → from + pathLength p ≤ L .mpl → at + 8 * length p + (from + pathLength p) ≡ length b → stepsFit L b (length p) at from ≡ true
   steps-pass [] at from t w each total full =
-      rw (le-leb from (L .mpl) (omega arith), eq-eqb (at + from) (length b) (omega arith))
+      let most = le-leb from (L .mpl) (omega arith) in
+      let whole = eq-eqb (at + from) (length b) (omega arith) in
+      λ i. most i && whole i
   steps-pass (c ∷ cs) at from t w each total full =
       let n = table-number b rest at from c cs t (omega arith) in
       let ih = steps-pass cs (at + 8) (from + length c) (table-next b rest at from c cs t) w (each .1) (omega arith) (omega arith) in
@@ -288,7 +290,7 @@ pack-holds L b p w v e = rw e (record {
 -- LENT PATHS. What the test of a lent path gives:
 pub lent-path : (L : Limits) (b : List ℕ) (k : ℕ) → wellFormed L b ≡ true → k ≤ packedCount b → lent L b k ≡ some (take k (unpack b))
 unfolding lent
-lent-path L b k h w = rw (h, le-leb k (packedCount b) w)
+lent-path L b k h w = let within = le-leb k (packedCount b) w in λ i. cond (h i && within i) (some (take k (unpack b))) none
 
 pub lent-malformed : (L : Limits) (b : List ℕ) (k : ℕ) → wellFormed L b ≡ false → lent L b k ≡ none
 unfolding lent
