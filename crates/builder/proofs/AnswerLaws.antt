@@ -10,7 +10,7 @@ use Rattle.willow.specs.Answers.{testedRefusal, unless}
 use Rattle.willow.specs.Refusals.{refused, value}
 use Rattle.builder_law.specs.Building.{byRefusal}
 use Rattle.builder.specs.declared.Builder.{Builder}
-use Rattle.builder.specs.Calls.{keptState}
+use Rattle.builder.specs.Calls.{keptState, StatesAgree}
 
 module _ (e : Option Refusal) (t : Tested) (tests : testedRefusal t ≡ e) where
   module _ (r : Refusal) (h : t ≡ tested.Refused r) where
@@ -38,3 +38,7 @@ module _ (e : Option Refusal) (t : Tested) (tests : testedRefusal t ≡ e) where
 
     pub build-made : (s : Builder) (m n : ℕ) → m ≡ n → (value m ≡ unless e (value n)) × (none ≡ keptState e s)
     build-made s m n w = rw passed (ap value w, refl)
+
+-- The struct and its state have the same numbers.
+pub states-agree : StatesAgree
+states-agree = record { at-the-start = λ L length count appended. refl; after-an-append = λ s. refl }

@@ -1,6 +1,7 @@
 -- What the builder's calls answer and leave. The numbers of the struct that they take are a state, and what is refused of a state
 -- and what an append leaves in the buffer are said in builder_law/specs/Building.antt.
 use Prim.Native.Nat.{ℕ, _+_}
+use mathlib.Core.Path.{_≡_}
 use mathlib.Core.List.{List}
 use mathlib.Core.Option.{Option, none, some}
 use Rattle.willow.specs.declared.Limits.{Limits}
@@ -69,3 +70,9 @@ grownBuffer s c out = law.grownBuffer (stateIn s) c out
 
 abbrev pub buildRefusal : Builder → List ℕ → Option Refusal
 buildRefusal s out = law.buildRefusal (stateIn s) out
+
+-- THE THEOREMS ON STATES ARE THEOREMS ON THE CALLS. What a call hands back holds the state that `BuilderTheorem` and
+-- `BuilderAcceptance` (crate builder_law) speak of: a start the state of its numbers, an append the grown state.
+pub record StatesAgree : Type 0 where
+  pub at-the-start : (L : Limits) (length count appended : ℕ) → stateIn (stateOf L length count appended) ≡ law.stateOf L length count appended
+  pub after-an-append : (s : Builder) → stateIn (grown s) ≡ law.grown (stateIn s)
