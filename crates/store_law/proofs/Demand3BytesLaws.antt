@@ -10,7 +10,7 @@ use lib.ListN.{length, drop}
 use borrow.Author.Tests.{le-leb}
 use Rattle.willow.specs.declared.Refusal.the-variants.{BadLimits, BadSheet}
 use Rattle.willow.specs.Answers.{orElse, unless, limitsRefusal, writtenBuffer}
-use Rattle.willow.specs.Demand3.{grown, history, given, GivenBy, Answered, CallPassed, Within}
+use Rattle.willow.specs.Demand3.{grown, history, given, GivenBy, HistoryOf, Answered, CallPassed, Within}
 use Rattle.willow.specs.Entries.{Entry}
 use Rattle.willow.specs.Lists.{All}
 use Rattle.willow.specs.Refusals.{value}
@@ -73,6 +73,7 @@ demand3-on-bytes z out cs l n m h q =
     let d = demand3 z cs (accepted-words (z .limits) l) q in
     record {
       bytes = bytes ∙ ap (λ t. storeLayout z t ++ rest) (d .state) ∙ ap (λ l. storeLayout z (given 0 (history z [] cs l)) ++ rest) (sym said);
+      passed = subst (λ l. HistoryOf z [] cs l (history z [] cs l)) (sym said) (d .passed);
       table = subst (λ l. Answered z 0 [] cs l) (sym said) (d .table);
       means = subst (λ l. GivenBy 0 (history z [] cs l) (given 0 (history z [] cs l))) (sym said)
           (subst (λ t. GivenBy 0 (history z [] cs (answers z fresh cs)) t) (d .state) (d .means));

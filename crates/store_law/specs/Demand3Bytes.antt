@@ -11,7 +11,7 @@
 --   offer's contract gives.
 -- "An offer is refused exactly if it was answered with a refusal number, and it is so answered exactly where the table says for the
 --   entries and totals that demand 3 gives just before it": `table`, by `Answered` and `ByTable`.
--- "The history is the unrefused offers in list order, taken from what was passed to them": `history`, and `grown` in it.
+-- "The history is the unrefused offers in list order, taken from what was passed to them": `passed`, by `HistoryOf` and `Adds`.
 -- "These make an offer's entry. Offers that agree in all of them offer the same entry, and the later repeats the earlier": `Makes`,
 --   `Repeat`, `Goes`.
 -- "Payload bytes are the payload lengths, added up as whole numbers": `payloads`, `Sum`.
@@ -26,7 +26,7 @@ use mathlib.Core.List.{List, [], _++_}
 use lib.ListN.{length, drop}
 use Rattle.willow.specs.declared.Refusal.the-variants.{BadLimits, BadSheet}
 use Rattle.willow.specs.Answers.{writtenBuffer}
-use Rattle.willow.specs.Demand3.{history, given, GivenBy, Answered, CallPassed, Within}
+use Rattle.willow.specs.Demand3.{history, given, GivenBy, HistoryOf, Answered, CallPassed, Within}
 use Rattle.willow.specs.Entries.{Entry}
 use Rattle.willow.specs.Limits.{Accepted, maxCapacity, maxWord}
 use Rattle.willow.specs.Lists.{All}
@@ -45,10 +45,12 @@ freshIn z out = writtenBuffer (freshStore z) out
 abbrev pub historyOf : Sizes → List ℕ → List Call → List Entry
 historyOf z out cs = history z [] cs (answersTo (freshIn z out) cs)
 
--- The four parts of the claim, for one list of calls.
+-- The parts of the claim, for one list of calls.
 pub record Demand3 (z : Sizes) (out : List ℕ) (cs : List Call) : Type 0 where
   -- in every byte the sheet is the one laid out for what demand 3 gives, and the bytes past it are as they were
   pub bytes : bytesAfter (freshIn z out) cs ≡ storeLayout z (given 0 (historyOf z out cs)) ++ drop (sheetLength (storeShape z)) out
+  -- the history is what was passed to the unrefused offers, in list order
+  pub passed : HistoryOf z [] cs (answersTo (freshIn z out) cs) (historyOf z out cs)
   -- each call was answered as the table says, both ways, for what demand 3 gives just before it
   pub table : Answered z 0 [] cs (answersTo (freshIn z out) cs)
   -- what was laid out is what demand 3 says in its own words

@@ -24,6 +24,7 @@ use Rattle.willow.specs.Store.{Sizes, State, fresh, Offer, Call, offer, 
 use Rattle.willow.proofs.Bools.{decided-false}
 use Rattle.willow.proofs.EntryLaws.{prunes-means, prunes-fails, prunes-irreflexive, prunes-transitive, same-means, one-place}
 use Rattle.willow.proofs.FilingLaws.{Sorted, sorted-means, file-in, in-file-new, in-file-old, file-sorted, file-length, file-payloads, filter-payloads, payloads-snoc, sorted-unique, file-all-sorted, file-all-in, in-file, in-file-all}
+use Rattle.willow.proofs.HistoryLaws.{history-passed}
 use Rattle.willow.proofs.ListLaws.{any-means, filter-in, in-filter, filter-ascending, filter-lengths, in-left, in-last, in-snoc}
 use Rattle.willow.proofs.TableLaws.{by-table}
 
@@ -394,6 +395,7 @@ demand3-from z base h s cs w a v x =
     let g = history z h cs (answers z s cs) in
     record {
       state = state-given z base (run z s cs) g (k .0);
+      passed = history-passed z w cs s h a;
       table = answered z base w cs s h a v x;
       means = given-by z base (run z s cs) g (k .0);
       within = k .1;

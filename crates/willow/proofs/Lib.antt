@@ -7,6 +7,7 @@ pub mod ListLaws
 pub mod PackedLaws
 pub mod TableLaws
 pub mod FilingLaws
+pub mod HistoryLaws
 pub mod Demand3Laws
 pub mod MarkedCasesHold
 pub mod LimitLaws

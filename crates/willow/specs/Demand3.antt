@@ -103,6 +103,24 @@ Repeat t e = In e (t .entries)
 abbrev pub Crowded : Sizes → State → Entry → Type 0
 Crowded z t e = (k : ℕ) × Number (Prunes e) (t .entries) k × (length (t .entries) - k ≡ z .capacity)
 
+-- THE HISTORY BY MEANING. "Taken from what was passed to them: namespace, subspace, path by its components, timestamp, payload
+-- length, digest. These make an offer's entry." What an offer that was answered so adds to it: its entry, unless it was refused.
+abbrev pub AddsItsEntry : Sizes → Offer → List Entry → Type 0
+AddsItsEntry z o new = (e : Entry) × Makes z o e × (new ≡ e ∷ [])
+
+abbrev pub Adds : Sizes → Call → Answer → List Entry → Type 0
+Adds z (offer o) (refused r) new = new ≡ []
+Adds z (offer o) outdated new = AddsItsEntry z o new
+Adds z (offer o) repeated new = AddsItsEntry z o new
+Adds z (offer o) (taken k) new = AddsItsEntry z o new
+
+-- "The unrefused offers in list order": calls with their answers lead from a history to a history.
+abbrev pub HistoryOf : Sizes → List Entry → List Call → List Answer → List Entry → Type 0
+HistoryOf z h [] [] last = last ≡ h
+HistoryOf z h [] (a ∷ as′) last = ⊥
+HistoryOf z h (c ∷ cs) [] last = ⊥
+HistoryOf z h (c ∷ cs) (a ∷ as′) last = (new : List Entry) × Adds z c a new × HistoryOf z (h ++ new) cs as′ last
+
 -- Each answer is given exactly if its own row's condition holds and none that is tested before it, and no other is given.
 pub record ByTable (z : Sizes) (t : State) (o : Offer) (a : Answer) : Type 0 where
   pub wrong-namespace : (a ≡ refused WrongNamespace) ↔ OtherNamespace z o
@@ -139,6 +157,8 @@ pub record Within (z : Sizes) (s : State) : Type 0 where
 pub record Demand3 (z : Sizes) (base : ℕ) (h : List Entry) (s : State) (cs : List Call) : Type 0 where
   -- the state is the one that is computed from the history,
   pub state : run z s cs ≡ given base (history z h cs (answers z s cs))
+  -- that history is what was passed to the unrefused offers,
+  pub passed : HistoryOf z h cs (answers z s cs) (history z h cs (answers z s cs))
   -- each call was answered as the table says, for what demand 3 gives just before it,
   pub table : Answered z base h cs (answers z s cs)
   -- the state is the one of demand 3's words,
