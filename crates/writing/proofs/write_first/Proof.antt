@@ -1,11 +1,10 @@
 -- The size is that of the packed prefix; too short a buffer is refused, else the prefix is written.
-use mathlib.Core.Path.{refl, _∙_}
+use mathlib.Core.Path.{refl}
 use native.Mathlib.Omega.{arith}
 use denote.Ref.{now}
 use borrow.Author.Tests.{le-leb, lt-leb}
 use Rattle.packed.proofs.PrefixLaws.{Front, front}
-use Rattle.writing.proofs.WritingLaws.{prefix-size}
-use Rattle.number.proofs.OverwritingLaws.{overwrite-at-front}
+use Rattle.writing.proofs.WritingLaws.{prefix-fits, prefix-size, put-in-front}
 use borrow.Author.Needs.{needs}
 use Rattle.writing.proofs.write_first.Statement.{statement}
 use Rattle.writing.proofs.write_first.Tie as tie
@@ -29,13 +28,13 @@ returns : tie.Need-returns
 returns c = let s = prefix-size _ _ _ (c .before .before .before .before .pre) (c .before .path-length .ensures) in rw (s, lt-leb _ _ (c .if1 .taken)) (refl, refl)
 
 put-prefix-requires : tie.Need-put-prefix-requires
-put-prefix-requires c κs = (c .before .before .before .before .before .pre, let e = c .before .before .path-length .ensures in let h = c .before .if1 .left in omega arith)
+put-prefix-requires c κs = prefix-fits _ _ _ _ (c .before .before .before .before .before .pre) (let e = c .before .before .path-length .ensures in let h = c .before .if1 .left in omega arith) (omega arith)
 
 same-length : tie.Need-same-length
 same-length c = search needs
 
 returns-2 : tie.Need-returns-2
-returns-2 c = let s = prefix-size _ _ _ (c .before .before .before .before .before .before .before .before .pre) (c .before .before .before .before .before .path-length .ensures) in rw (s, le-leb _ _ (c .before .before .before .before .if1 .left)) (refl, c .before .before .put-prefix .ensures ∙ overwrite-at-front _ _ ∙ rw s)
+returns-2 c = let s = prefix-size _ _ _ (c .before .before .before .before .before .before .before .before .pre) (c .before .before .before .before .before .path-length .ensures) in rw (s, le-leb _ _ (c .before .before .before .before .if1 .left)) (refl, put-in-front _ _ _ _ s (c .before .before .put-prefix .ensures))
 
 pub write-first-spec : {M : Type 1} → statement M
 write-first-spec =
