@@ -8,7 +8,6 @@ use mathlib.Core.Bool.{Bool, true, false, cond}
 use native.Mathlib.Omega.{arith}
 use lib.Dec.{ltb}
 use lib.ListN.{length}
-use lib.Seq.{take-all}
 use borrow.Author.Tests.{ltb-false, eq-eqb, ne-eqb, le-leb}
 use Rattle.willow.specs.declared.Limits.{Limits}
 use Rattle.willow.specs.declared.Refusal.{Refusal}
@@ -19,13 +18,13 @@ use Rattle.willow.specs.Answers.{testedRefusal, orElse, unless, limitsRefusal, 
 use Rattle.willow.specs.Construction.{admitted, lengthsIn, lengthsFit, cut, fromSlices, append, appendSlice, Slices}
 use Rattle.willow.specs.Limits.{maxWord, acceptedLimits}
 use Rattle.willow.specs.Lists.{any}
-use Rattle.willow.specs.Numbers.{unle, le}
+use Rattle.willow.specs.Numbers.{le}
 use Rattle.willow.specs.Packed.{packedCount, wellFormed, lent}
 use Rattle.willow.specs.Paths.{Path, Component, pathLength}
 use Rattle.willow.specs.Refusals.{Outcome, refused, absent, value}
 use Rattle.willow.proofs.AnswerLaws.{path-passed, made-as}
 use Rattle.willow.proofs.ConstructionLaws.{construction, valid-admitted}
-use Rattle.willow.proofs.NumberLaws.{le-length, unle-le}
+use Rattle.willow.proofs.NumberLaws.{le-length}
 use Rattle.number.specs.Overwriting.{overwrite, zeros}
 use Rattle.number.proofs.OverwritingLaws.{overwrite-all, length-zeros, number-zeros}
 use Rattle.lent_path.proofs.LentLaws.{asked}
@@ -94,16 +93,8 @@ module _ (L : Limits) (b : List ℕ) (k : ℕ) (lengths bytes : List ℕ) (fine 
         record { path-readable = r; lengths-fit = s .fit; few = omega arith; short = omega arith }
 
 -- ONE COMPONENT is a list of one slice.
-one-length : (n : ℕ) → n ≤ maxWord → lengthsIn (le 8 n) ≡ n ∷ []
-unfolding lengthsIn
-one-length n h =
-    let l : length (le 8 n) ≡ 8 = le-length 8 n in
-    rw l (ap (λ s. unle s ∷ []) (take-all 8 (le 8 n) (omega arith)) ∙ ap (λ m. m ∷ []) (unle-le 8 n (omega arith)))
-
 one-slice : (c : Component) → length c ≤ maxWord → Slices (le 8 (length c)) c (c ∷ [])
-one-slice c h =
-    let l = le-length 8 (length c) in
-    record { numbers-whole = omega arith; sizes = sym (one-length (length c) h); content = append-nil c }
+one-slice c h = record { sizes = sym (append-nil (le 8 (length c))); words = (h, tt); content = append-nil c }
 
 pub one-appended : (L : Limits) (b : List ℕ) (k : ℕ) (c lengths : List ℕ) → length c ≤ maxWord → lengths ≡ overwrite (zeros 8) 0 (le 8 (length c))
     → onPath L b k (slicesAppendedOf L lengths c) ≡ onPath L b k (appendedOf L c)
@@ -142,11 +133,8 @@ one-on-empty L c = on-empty L (appendedOf L c)
 
 pub none-made : (L : Limits) → slicesOutcome L [] [] ≡ emptyOutcome L
 none-made L =
-    let s : Slices [] [] [] = record { numbers-whole = refl; sizes = none-in; content = refl } in
+    let s : Slices [] [] [] = record { sizes = refl; words = tt; content = refl } in
     ap (underLimits L) (construction .made-as L [] [] [] s ∙ valid-admitted L [] (record { count = omega arith; total = omega arith; each = tt }))
-  where
-    none-in : [] ≡ lengthsIn []
-    none-in = unfold lengthsIn in refl
 
 -- THE TOTAL BESIDE THE LENGTHS.
 module _ (L : Limits) (total : ℕ) (lengths bytes : List ℕ) where

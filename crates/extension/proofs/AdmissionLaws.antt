@@ -12,13 +12,13 @@ use borrow.Author.Tests.{lt-ltb, le-ltb}
 use Rattle.willow.specs.declared.Limits.{Limits}
 use Rattle.willow.specs.declared.Refusal.the-variants.{BadLengths, PathTooLong, TooManyComponents, ComponentTooLong}
 use Rattle.willow.specs.Answers.{pathIn}
-use Rattle.willow.specs.Construction.{admitted, lengthsIn, lengthsFit, cut, appendSlice, Slices}
+use Rattle.willow.specs.Construction.{admitted, lengthsIn, lengthsFit, cut, appendSlice}
 use Rattle.willow.specs.Lists.{any}
 use Rattle.willow.specs.Numbers.{Bytes}
 use Rattle.willow.specs.Packed.{wellFormed, unpack}
 use Rattle.willow.specs.Paths.{Path, pathLength, ValidComponent, Valid}
 use Rattle.willow.proofs.Bools.{neither-true}
-use Rattle.willow.proofs.ConstructionLaws.{fit-means, none-too-long, slices-count, slices-cut, slices-length}
+use Rattle.willow.proofs.ConstructionLaws.{Sliced, fit-means, none-too-long, slices-count, slices-cut, slices-length}
 use Rattle.willow.proofs.ListLaws.{all-also}
 use Rattle.willow.proofs.PackedLaws.{unpack-valid}
 use Rattle.willow.proofs.ValidLaws.{path-length-append, valid-take}
@@ -42,7 +42,7 @@ lent-known L b k r h bs =
     record { can-read = r; valid = v; few = omega arith; short = v .total }
 
 -- Slices whose lengths fit the bytes.
-pub cut-slices : (lengths bytes : List ℕ) → lengthsFit lengths bytes ≡ true → Slices lengths bytes (cut (lengthsIn lengths) bytes)
+pub cut-slices : (lengths bytes : List ℕ) → lengthsFit lengths bytes ≡ true → Sliced lengths bytes (cut (lengthsIn lengths) bytes)
 cut-slices lengths bytes e =
     let s = fit-means lengths bytes .0 e in
     rw (← slices-cut lengths bytes (s .0) (s .1)) (s .1)

@@ -1,46 +1,38 @@
 -- A valid path under accepted limits fits into the buffers, packed; so a call that writes one is never refused for room, and what
 -- it answers and writes is what its outcome says. A path read from a text is what `from_slices` makes of its lengths and bytes.
-use Prim.Native.Nat.{ℕ, suc, _+_, _-_, _*_, _/_, _%_, _≤_, _<_}
-use mathlib.Core.Bool.{Bool, true, false, cond}
-use mathlib.Core.List.{List, [], _∷_, _++_, map}
+use Prim.Native.Nat.{ℕ, _+_, _-_, _≤_}
+use mathlib.Core.Bool.{true}
+use mathlib.Core.List.{List, [], _∷_, _++_}
 use mathlib.Core.Option.{Option, none, some}
 use mathlib.Core.Path.{_≡_, refl, sym, _∙_, ap, subst}
 use native.Mathlib.Omega.{arith}
 use lib.Dec.{leb}
 use lib.ListN.{length, take, drop, length-append}
-use lib.Seq.{take-at, drop-at, take-all}
+use lib.Seq.{take-at, take-all}
 use borrow.Author.Tests.{le-leb}
 use Rattle.willow.specs.declared.Counted.{Counted}
 use Rattle.willow.specs.declared.Counted.the-variants as counted
 use Rattle.willow.specs.declared.Limits.{Limits}
 use Rattle.willow.specs.declared.Refusal.{Refusal}
-use Rattle.willow.specs.Answers.{countedOutcome, writtenLength, writtenBuffer, packedOutcome, onPath, pathIn, limitsRefusal, unless}
-use Rattle.willow.specs.Construction.{admitted, numbers, lengthsIn, fromSlices, Slices}
+use Rattle.willow.specs.Answers.{countedOutcome, onPath, pathIn, limitsRefusal, unless}
+use Rattle.willow.specs.Construction.{admitted, Slices}
 use Rattle.willow.specs.LeastPaths.{nextGreater, successor, greatest, Least, GreaterPath, GreaterNotPrefixed}
 use Rattle.willow.specs.Limits.{Accepted, maxWord}
 use Rattle.willow.specs.Lists.{All}
-use Rattle.willow.specs.Numbers.{Bytes, le, unle}
-use Rattle.willow.specs.Packed.{pack, Packed, packedCount, wellFormed, unpack, joined, Lent}
+use Rattle.willow.specs.Numbers.{Bytes}
+use Rattle.willow.specs.Packed.{pack, Packed, packedCount, wellFormed, unpack, joined}
 use Rattle.willow.specs.Paths.{Path, pathLength, Valid}
 use Rattle.willow.specs.Refusals.{Outcome, refused, absent, value}
 use Rattle.willow.proofs.AnswerLaws.{accepted-words, passed-packed, path-questions, limits-passed}
 use Rattle.willow.proofs.ConstructionLaws.{construction}
 use Rattle.willow.proofs.LeastPathLaws.{least-paths}
-use Rattle.willow.proofs.NumberLaws.{le-length, unle-le}
-use Rattle.willow.proofs.PackedLaws.{pack-length, pack-count, pack-valid-bytes, packed-form, joined-length}
-use Rattle.number.specs.Overwriting.{overwrite}
-use Rattle.number.proofs.OverwritingLaws.{overwrite-at-front}
+use Rattle.willow.proofs.PackedLaws.{pack-length, pack-count, pack-valid-bytes, packed-form}
 use Rattle.packed.specs.Readable.{Readable}
 use Rattle.construction.specs.Making.{underLimits, slicesOutcome}
 use Rattle.greatest.specs.Greatest.{greatestOutcome}
 use Rattle.least_writing.specs.Written.{pathOr}
 use Rattle.least.specs.Places as least
-use Rattle.keyform.specs.Answering.{onMade, questionOutcome, readOutcome, lineOutcome}
-use Rattle.keyform.specs.Reading.{readLine, readPath}
-use Rattle.keyform.specs.Wording.{maxLine, Question}
 use Rattle.keyread.specs.Parts.{sizes}
-use Rattle.keyread.proofs.PieceLaws.{sizes-length}
-use Rattle.keyask.specs.declared.inner.Found.{Found}
 use Rattle.keyask.specs.declared.inner.Found.the-variants as found
 use Rattle.keyask.specs.Found.{maxPacked, Stands, Finds, Wrote, Sound, foundAs, CountReadable}
 
@@ -165,20 +157,12 @@ pub greatest-sound : (L : Limits) → Sound L (greatestOutcome L)
 greatest-sound L = under-sound L (value (greatest L)) (λ a. (a, least-paths L .greatest-valid))
 
 -- A PATH READ FROM A TEXT: its lengths and bytes are what `from_slices` takes for it.
-sizes-numbers : (p : Path) → pathLength p ≤ maxWord → numbers (length p) (sizes p) ≡ map length p
-sizes-numbers [] h = refl
-sizes-numbers (c ∷ cs) h =
-    let l = le-length 8 (length c) in
-    let t : take 8 (le 8 (length c) ++ sizes cs) ≡ le 8 (length c) = take-at (le 8 (length c)) (sizes cs) 8 l in
-    let d : drop 8 (le 8 (length c) ++ sizes cs) ≡ sizes cs = drop-at (le 8 (length c)) (sizes cs) 8 l in
-    rw (t, d, unle-le 8 (length c) (omega arith), sizes-numbers cs (omega arith))
+components-short : (p : Path) → pathLength p ≤ maxWord → All (λ c. length c ≤ maxWord) p
+components-short [] h = tt
+components-short (c ∷ cs) h = (omega arith, components-short cs (omega arith))
 
 pub sizes-slices : (p : Path) → pathLength p ≤ maxWord → Slices (sizes p) (joined p) p
-unfolding lengthsIn
-sizes-slices p h =
-    let l = sizes-length p in
-    let e : length (sizes p) / 8 ≡ length p = omega arith in
-    record { numbers-whole = omega arith; sizes = rw e (sym (sizes-numbers p h)); content = refl }
+sizes-slices p h = record { sizes = refl; words = components-short p h; content = refl }
 
 pub slices-made : (L : Limits) (p : Path) → pathLength p ≤ maxWord → slicesOutcome L (sizes p) (joined p) ≡ underLimits L (admitted L p)
 slices-made L p h = ap (underLimits L) (construction .made-as L (sizes p) (joined p) p (sizes-slices p h))

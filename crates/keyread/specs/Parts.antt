@@ -1,18 +1,17 @@
 -- What the functions that read a key line answer, in the words of crate `keyform`.
 use Prim.Native.Nat.{ℕ, _*_, _≤_, _<_}
 use mathlib.Core.Bool.{Bool, true, false, cond}
-use mathlib.Core.List.{List, [], _∷_, _++_}
+use mathlib.Core.List.{List, [], map}
 use mathlib.Core.Option.{Option, none, some}
 use mathlib.Core.Path.{_≡_}
 use lib.Dec.{leb}
 use lib.ListN.{length, drop}
-use Rattle.willow.specs.declared.Limits.{Limits}
 use Rattle.number.specs.Overwriting.{overwrite}
 use Rattle.keyform.specs.Reading.{Field, readHex, readComponent, readPath, Read, asks, withQuestion}
 use Rattle.keyform.specs.Splitting.{pieces}
 use Rattle.keyform.specs.Texts.{slash}
-use Rattle.keyform.specs.Wording.{Question, successorOf, nextGreaterOf, greatestPath}
-use Rattle.willow.specs.Numbers.{le}
+use Rattle.keyform.specs.Wording.{successorOf, nextGreaterOf, greatestPath}
+use Rattle.willow.specs.Construction.{lengthBuffer}
 use Rattle.willow.specs.Packed.{joined}
 use Rattle.willow.specs.Paths.{Component, Path, pathLength}
 use Rattle.keyread.specs.declared.inner.Field as code-field
@@ -46,8 +45,7 @@ ComponentRead s before to (piece.Read n) behind =
 
 -- The lengths of components, as 8-byte numbers.
 abbrev pub sizes : Path → List ℕ
-sizes [] = []
-sizes (c ∷ cs) = le 8 (length c) ++ sizes cs
+sizes p = lengthBuffer (map length p)
 
 -- A path: its components' lengths and its bytes are written to the front.
 abbrev pub PathRead : Option Path → List ℕ → List ℕ → Slices → List ℕ → List ℕ → Type 0

@@ -14,18 +14,19 @@ use borrow.Author.Tests.{eqb-true, eqb-false, eq-eqb}
 use Rattle.willow.specs.declared.AreaSubspace.{AreaSubspace}
 use Rattle.willow.specs.declared.AreaSubspace.the-variants.{Any, Id}
 use Rattle.willow.specs.declared.Limits.{Limits}
+use Rattle.willow.specs.declared.Order.{Order}
 use Rattle.willow.specs.declared.Order.the-variants.{Less, Equal}
-use Rattle.willow.specs.Areas.{Triplet, tripletOf, ValidTriplet, Area, SubspaceWord, ValidArea, InSubspace, InArea, AreaIncluded, IsAreaIntersection, PrunesSome, NotTwoIds, includesSubspace, includesAreaSubspace, subspaceIntersection, compareSubspaces, includesTriplet, includesArea, subspacesAgree, almostIncludesArea, longerPath, areaOf, areaIntersection, areaPrunable, areaKey, compareAreas, withAnySubspace, AreaLaws}
+use Rattle.willow.specs.Areas.{Triplet, tripletOf, ValidTriplet, Area, SubspaceWord, ValidArea, InSubspace, InArea, AreaIncluded, IsAreaIntersection, PrunesSome, NotTwoIds, SubspaceBelow, AreaBelow, includesSubspace, includesAreaSubspace, subspaceIntersection, compareSubspaces, includesTriplet, includesArea, subspacesAgree, almostIncludesArea, longerPath, areaOf, areaIntersection, areaPrunable, areaKey, compareAreas, withAnySubspace, AreaLaws}
 use Rattle.willow.specs.Entries.{Entry, digestLength, ValidEntry, Older}
 use Rattle.willow.specs.Limits.{maxWord}
 use Rattle.willow.specs.Numbers.{Bytes}
-use Rattle.willow.specs.Orders.{isGreater, reverse, Total, AtMost, compareNumbers, comparePairs, ListBelow}
-use Rattle.willow.specs.Paths.{Path, Valid, Prefix, Related, isPrefixOf, comparePaths}
-use Rattle.willow.specs.Ranges.{Range, InRange, NonEmpty, IsIntersection, includesRange, intersection, compareRanges}
+use Rattle.willow.specs.Orders.{isGreater, reverse, Total, Decides, AtMost, compareNumbers, comparePairs, PairBelow, ListBelow}
+use Rattle.willow.specs.Paths.{Path, Valid, Prefix, Related, PathBelow, isPrefixOf, comparePaths}
+use Rattle.willow.specs.Ranges.{Range, InRange, NonEmpty, RangeBelow, IsIntersection, includesRange, intersection, compareRanges}
 use Rattle.willow.proofs.Bools.{decided-false, conjunction-means}
-use Rattle.willow.proofs.OrderLaws.{less≢equal, less≢greater, equal≢greater, numbers-total, numbers-decided, at-most-number, pairs-total, keyed-total}
+use Rattle.willow.proofs.OrderLaws.{less≢equal, less≢greater, equal≢greater, decides, numbers-total, numbers-decided, at-most-number, pairs-total, pairs-decided, keyed-total, keyed-decided}
 use Rattle.willow.proofs.PathLaws.{path-order, path-prefix, prefix-self, prefix-transitive, prefixes-related}
-use Rattle.willow.proofs.RangeLaws.{not-greater-means, ranges-total, number-ranges, intersection-has}
+use Rattle.willow.proofs.RangeLaws.{not-greater-means, ranges-total, ranges-decided, number-ranges, intersection-has}
 
 -- SUBSPACES.
 subspace-means : (s : AreaSubspace) (i : ℕ) → (includesSubspace s i ≡ true) ↔ InSubspace s i
@@ -66,6 +67,13 @@ subspaces-intersected (Id i) (Id j) = go (eqb i j) refl
     go true e = (λ k. (λ h. (h, h ∙ eqb-true i j e), λ h. h .0), (i, refl))
     go false e = λ k h g. eqb-false i j e (sym h ∙ g)
 
+-- THE ORDER OF SUBSPACES: any before every id.
+subspace-less : (s u : AreaSubspace) → (compareSubspaces s u ≡ Less) ↔ SubspaceBelow s u
+subspace-less Any Any = (λ h. less≢equal (sym h), λ h. absurd h)
+subspace-less Any (Id j) = (λ h. tt, λ h. refl)
+subspace-less (Id i) Any = (λ h. less≢greater (sym h), λ h. absurd h)
+subspace-less (Id i) (Id j) = numbers-decided .less i j
+
 subspace-same : (s u : AreaSubspace) → compareSubspaces s u ≡ Equal → s ≡ u
 subspace-same Any Any e = refl
 subspace-same Any (Id j) e = absurd (less≢equal e)
@@ -92,6 +100,9 @@ subspace-trans (Id i) (Id j) (Id k) p q = numbers-total .trans i j k p q
 
 pub subspaces-total : Total compareSubspaces
 subspaces-total = record { same = subspace-same; self = subspace-self; flip = subspace-flip; trans = subspace-trans }
+
+subspaces-decided : Decides compareSubspaces SubspaceBelow
+subspaces-decided = decides compareSubspaces SubspaceBelow subspaces-total subspace-less
 
 -- PATHS. What the longer of two related paths prefixes is what both prefix.
 abbrev IsLonger : Path → Path → Option Path → Type 0
@@ -411,17 +422,35 @@ prunable-only-if L a t v w n e = go (h .1 .1)
     go (inl f) = at (a .path) (v .path-valid) f (prefix-self (a .path))
     go (inr g) = at (t .path) (w .path-valid) (prefix-self (t .path)) g
 
--- THE ORDER.
-pub areas-total : Total compareAreas
-areas-total = keyed-total areaKey one
-    (comparePairs compareSubspaces (comparePairs comparePaths (compareRanges compareNumbers)))
-    (pairs-total compareSubspaces (comparePairs comparePaths (compareRanges compareNumbers)) subspaces-total rest)
-  where
-    rest : Total (comparePairs comparePaths (compareRanges compareNumbers))
-    rest = pairs-total comparePaths (compareRanges compareNumbers) (path-order .total) (ranges-total compareNumbers numbers-total)
+-- THE ORDER: by a key of three parts, each of which has its order.
+area-by-key : (a b : Area) → areaKey a ≡ areaKey b → a ≡ b
+area-by-key a b h = λ i. record { subspace = h i .0; path = h i .1 .0; times = h i .1 .1 }
 
-    one : (a b : Area) → areaKey a ≡ areaKey b → a ≡ b
-    one a b h = λ i. record { subspace = h i .0; path = h i .1 .0; times = h i .1 .1 }
+abbrev compareRest : Path × Range ℕ → Path × Range ℕ → Order
+compareRest = comparePairs comparePaths (compareRanges compareNumbers)
+
+times-total : Total (compareRanges compareNumbers)
+times-total = ranges-total compareNumbers numbers-total
+
+rest-total : Total compareRest
+rest-total = pairs-total comparePaths (compareRanges compareNumbers) (path-order .total) times-total
+
+rest-decided : Decides compareRest (PairBelow PathBelow (RangeBelow _<_))
+rest-decided =
+    pairs-decided comparePaths (compareRanges compareNumbers) (path-order .total) times-total PathBelow (RangeBelow _<_) (path-order .means)
+    (ranges-decided compareNumbers _<_ numbers-total numbers-decided)
+
+keys-total : Total (comparePairs compareSubspaces compareRest)
+keys-total = pairs-total compareSubspaces compareRest subspaces-total rest-total
+
+pub areas-total : Total compareAreas
+areas-total = keyed-total areaKey area-by-key (comparePairs compareSubspaces compareRest) keys-total
+
+pub areas-decided : Decides compareAreas AreaBelow
+areas-decided =
+    keyed-decided areaKey area-by-key (comparePairs compareSubspaces compareRest) keys-total
+    (PairBelow SubspaceBelow (PairBelow PathBelow (RangeBelow _<_)))
+    (pairs-decided compareSubspaces compareRest subspaces-total rest-total SubspaceBelow (PairBelow PathBelow (RangeBelow _<_)) subspaces-decided rest-decided)
 
 -- THEOREM 6.
 pub area-laws : (L : Limits) → AreaLaws L
@@ -436,5 +465,7 @@ area-laws L = record {
   prunable-if = prunable-if L;
   prunable-only-if = prunable-only-if L;
   order-total = areas-total;
+  order-means = areas-decided;
   subspaces-total = subspaces-total;
+  subspaces-means = subspaces-decided;
 }

@@ -1,26 +1,27 @@
 -- Each answer of `admitted` is given exactly where its tests say, by cases on the three tests. Cutting bytes by lengths and
 -- joining the pieces are inverse, by recursion on the lengths.
-use Prim.Native.Nat.{ℕ, zero, suc, _+_, _/_, _≤_}
+use Prim.Native.Nat.{ℕ, zero, suc, _+_, _*_, _/_, _%_, _≤_}
 use mathlib.Core.Path.{_≡_, refl, sym, _∙_, ap}
 use mathlib.Core.Logic.{_↔_, Iff·trans}
 use mathlib.Core.List.{List, [], _∷_, _++_, map}
 use mathlib.Core.Bool.{Bool, true, false, cond, true≢false}
 use native.Mathlib.Omega.{arith}
 use lib.Dec.{ltb}
-use lib.ListN.{length, take, drop, length-take, length-drop, length-map}
+use lib.ListN.{length, take, drop, length-take, length-drop, length-map, length-append, take-append-drop}
 use lib.Seq.{take-at, drop-at, drop-drop, take-add, take-length}
 use borrow.Author.Tests.{ltb-true, ltb-false, lt-ltb, le-ltb, eqb-true, eq-eqb}
 use Rattle.willow.specs.declared.Limits.{Limits}
 use Rattle.willow.specs.declared.Refusal.the-variants.{BadLengths, PathTooLong, TooManyComponents, ComponentTooLong}
 use Rattle.willow.specs.Refusals.{Outcome, refused, value}
+use Rattle.willow.specs.Limits.{maxWord}
 use Rattle.willow.specs.Lists.{All, any}
-use Rattle.willow.specs.Numbers.{Bytes, unle, numberAt}
+use Rattle.willow.specs.Numbers.{Bytes, le, unle, numberAt}
 use Rattle.willow.specs.Packed.{joined}
 use Rattle.willow.specs.Paths.{Path, pathLength, ValidComponent, Valid}
-use Rattle.willow.specs.Construction.{admitted, numbers, lengthsIn, total, lengthsFit, cut, fromSlices, appendSlice, SomeTooLong, Admission, Slices, Construction}
+use Rattle.willow.specs.Construction.{admitted, numbers, lengthsIn, total, lengthsFit, cut, fromSlices, appendSlice, SomeTooLong, Admission, lengthBuffer, Slices, Construction}
 use Rattle.willow.proofs.Bools.{both-true, not-true-false, decided-false}
-use Rattle.willow.proofs.ListLaws.{all-in, all-also, all-both, any-found, any-false, found-any}
-use Rattle.willow.proofs.NumberLaws.{bytes-take, bytes-drop}
+use Rattle.willow.proofs.ListLaws.{all-in, all-also, all-both, all-mapped, mapped-all, any-found, any-false, found-any}
+use Rattle.willow.proofs.NumberLaws.{bytes-take, bytes-drop, le-length, unle-le, le-unle, unle-bound}
 use Rattle.willow.proofs.PackedLaws.{joined-length}
 
 -- THREE TESTS IN ORDER: what each answer says of them.
@@ -153,8 +154,72 @@ pub cut-bytes : (ns bytes : List ℕ) → Bytes bytes → All Bytes (cut ns byte
 cut-bytes [] bytes h = tt
 cut-bytes (n ∷ ns) bytes h = (bytes-take n bytes h, cut-bytes ns (drop n bytes) (bytes-drop n bytes h))
 
+-- A BUFFER OF LENGTHS holds whole numbers, and these are the lengths.
+buffer-length : (ns : List ℕ) → length (lengthBuffer ns) ≡ 8 * length ns
+buffer-length [] = refl
+buffer-length (n ∷ ns) = let w = le-length 8 n in let l = length-append (le 8 n) (lengthBuffer ns) in let ih = buffer-length ns in omega arith
+
+buffer-numbers : (ns : List ℕ) → All (λ n. n ≤ maxWord) ns → numbers (length ns) (lengthBuffer ns) ≡ ns
+buffer-numbers [] h = refl
+buffer-numbers (n ∷ ns) h =
+    rw (
+      take-at (le 8 n) (lengthBuffer ns) 8 (le-length 8 n),
+      drop-at (le 8 n) (lengthBuffer ns) 8 (le-length 8 n),
+      unle-le 8 n (let w = h .0 in omega arith),
+      buffer-numbers ns (h .1),
+    )
+
+lengths-back : (ns : List ℕ) → All (λ n. n ≤ maxWord) ns → lengthsIn (lengthBuffer ns) ≡ ns
+unfolding lengthsIn
+lengths-back ns h =
+    let k : length (lengthBuffer ns) / 8 ≡ length ns = let l = buffer-length ns in omega arith in
+    ap (λ m. numbers m (lengthBuffer ns)) k ∙ buffer-numbers ns h
+
+-- and bytes in whole eights are the buffer of the numbers in them
+numbers-buffer : (k : ℕ) (s : List ℕ) → Bytes s → length s ≡ 8 * k → lengthBuffer (numbers k s) ≡ s
+numbers-buffer zero s h l = sym (nothing s (omega arith))
+  where
+    nothing : (t : List ℕ) → length t ≡ 0 → t ≡ []
+    nothing [] e = refl
+    nothing (x ∷ xs) e = absurd (omega arith)
+numbers-buffer (suc k) s h l =
+    let w : length (take 8 s) ≡ 8 = length-take 8 s ∙ omega arith in
+    let d = length-drop 8 s in
+    let first : le 8 (unle (take 8 s)) ≡ take 8 s = rw w at (le-unle (take 8 s) (bytes-take 8 s h)) in
+    rw (first, numbers-buffer k (drop 8 s) (bytes-drop 8 s h) (omega arith)) (take-append-drop 8 s)
+
+numbers-words : (k : ℕ) (s : List ℕ) → Bytes s → All (λ n. n ≤ maxWord) (numbers k s)
+numbers-words zero s h = tt
+numbers-words (suc k) s h =
+    let l = length-take 8 s in
+    let b = unle-bound 8 (take 8 s) (bytes-take 8 s h) (omega arith) in
+    (omega arith, numbers-words k (drop 8 s) (bytes-drop 8 s h))
+
+-- AS THE CODE READS THEM: the buffer of lengths has whole numbers, which are the components' lengths.
+pub record Sliced (lengths bytes : List ℕ) (p : Path) : Type 0 where
+  pub numbers-whole : length lengths % 8 ≡ 0
+  pub sizes : map length p ≡ lengthsIn lengths
+  pub content : joined p ≡ bytes
+
+pub slices-read : (lengths bytes : List ℕ) (p : Path) → Slices lengths bytes p → Sliced lengths bytes p
+slices-read lengths bytes p s = record {
+  numbers-whole = let e = ap length (s .sizes) in let l = buffer-length (map length p) in omega arith;
+  sizes = sym (ap lengthsIn (s .sizes) ∙ lengths-back (map length p) (all-mapped length (λ n. n ≤ maxWord) p (s .words)));
+  content = s .content;
+}
+
+read-slices : (lengths bytes : List ℕ) (p : Path) → Bytes lengths → Sliced lengths bytes p → Slices lengths bytes p
+unfolding lengthsIn
+read-slices lengths bytes p h s =
+    let whole : length lengths ≡ 8 * (length lengths / 8) = let w = s .numbers-whole in omega arith in
+    record {
+      sizes = sym (ap lengthBuffer (s .sizes) ∙ numbers-buffer (length lengths / 8) lengths h whole);
+      words = mapped-all length (λ n. n ≤ maxWord) p (rw (s .sizes) (numbers-words (length lengths / 8) lengths h));
+      content = s .content;
+    }
+
 -- LENGTHS THAT FIT have components:
-fit-slices : (lengths bytes : List ℕ) → lengthsFit lengths bytes ≡ true → Slices lengths bytes (cut (lengthsIn lengths) bytes)
+fit-slices : (lengths bytes : List ℕ) → lengthsFit lengths bytes ≡ true → Sliced lengths bytes (cut (lengthsIn lengths) bytes)
 unfolding lengthsFit
 fit-slices lengths bytes e =
     let h = both-true _ _ e in
@@ -167,24 +232,24 @@ fit-slices lengths bytes e =
     }
 
 -- components that lengths and bytes stand for: how many bytes and components
-pub slices-length : (lengths bytes : List ℕ) (p : Path) → Slices lengths bytes p → pathLength p ≡ length bytes
+pub slices-length : (lengths bytes : List ℕ) (p : Path) → Sliced lengths bytes p → pathLength p ≡ length bytes
 slices-length lengths bytes p s = sym (joined-length p) ∙ ap length (s .content)
 
-pub slices-count : (lengths bytes : List ℕ) (p : Path) → Slices lengths bytes p → length p ≡ length lengths / 8
+pub slices-count : (lengths bytes : List ℕ) (p : Path) → Sliced lengths bytes p → length p ≡ length lengths / 8
 slices-count lengths bytes p s = sym (length-map p length) ∙ ap length (s .sizes) ∙ lengths-count lengths
 
 -- and where there are such components the lengths fit
-slices-fit : (lengths bytes : List ℕ) (p : Path) → Slices lengths bytes p → lengthsFit lengths bytes ≡ true
+slices-fit : (lengths bytes : List ℕ) (p : Path) → Sliced lengths bytes p → lengthsFit lengths bytes ≡ true
 unfolding lengthsFit
 slices-fit lengths bytes p s =
     let sum : total (lengthsIn lengths) ≡ length bytes = ap total (sym (s .sizes)) ∙ total-lengths p ∙ slices-length lengths bytes p s in
     rw (eq-eqb _ _ (s .numbers-whole), eq-eqb _ _ sum)
 
-pub fit-means : (lengths bytes : List ℕ) → (lengthsFit lengths bytes ≡ true) ↔ ((p : Path) × Slices lengths bytes p)
+pub fit-means : (lengths bytes : List ℕ) → (lengthsFit lengths bytes ≡ true) ↔ ((p : Path) × Sliced lengths bytes p)
 fit-means lengths bytes = (λ e. (cut (lengthsIn lengths) bytes, fit-slices lengths bytes e), λ s. slices-fit lengths bytes (s .0) (s .1))
 
 -- there is one list of them
-pub slices-cut : (lengths bytes : List ℕ) (p : Path) → Slices lengths bytes p → p ≡ cut (lengthsIn lengths) bytes
+pub slices-cut : (lengths bytes : List ℕ) (p : Path) → Sliced lengths bytes p → p ≡ cut (lengthsIn lengths) bytes
 slices-cut lengths bytes p s = rw (← s .sizes, ← s .content) (sym (cut-path p))
 
 -- REFUSAL 6 is not one of those that `admitted` gives.
@@ -202,36 +267,40 @@ unless-fit : (fit : Bool) (o : Outcome Path) → (o ≡ refused BadLengths → �
 unless-fit true o n = (λ e. absurd (n e), λ e. absurd (true≢false e))
 unless-fit false o n = (λ e. refl, λ e. refl)
 
-none-fit : (lengths bytes : List ℕ) → (lengthsFit lengths bytes ≡ false) ↔ ((p : Path) → Slices lengths bytes p → ⊥)
-none-fit lengths bytes =
+none-fit : (lengths bytes : List ℕ) → Bytes lengths → (lengthsFit lengths bytes ≡ false) ↔ ((p : Path) → Slices lengths bytes p → ⊥)
+none-fit lengths bytes h =
     let d = decided-false (lengthsFit lengths bytes) (fit-means lengths bytes) in
-    (λ e p s. d .0 e (p, s), λ n. d .1 (λ s. n (s .0) (s .1)))
+    (λ e p s. d .0 e (p, slices-read lengths bytes p s), λ n. d .1 (λ s. n (s .0) (read-slices lengths bytes (s .0) h (s .1))))
 
-made-unless : (L : Limits) (lengths bytes : List ℕ) → (fromSlices L lengths bytes ≡ refused BadLengths) ↔ ((p : Path) → Slices lengths bytes p → ⊥)
+made-unless : (L : Limits) (lengths bytes : List ℕ) → Bytes lengths → (fromSlices L lengths bytes ≡ refused BadLengths) ↔ ((p : Path) → Slices lengths bytes p → ⊥)
 unfolding fromSlices
-made-unless L lengths bytes =
+made-unless L lengths bytes h =
     let p = cut (lengthsIn lengths) bytes in
-    Iff·trans (unless-fit (lengthsFit lengths bytes) (admitted L p) (admitted-lengths L p)) (none-fit lengths bytes)
+    Iff·trans (unless-fit (lengthsFit lengths bytes) (admitted L p) (admitted-lengths L p)) (none-fit lengths bytes h)
 
 made-as : (L : Limits) (lengths bytes : List ℕ) (p : Path) → Slices lengths bytes p → fromSlices L lengths bytes ≡ admitted L p
 unfolding fromSlices
-made-as L lengths bytes p s = rw (slices-fit lengths bytes p s) (ap (admitted L) (sym (slices-cut lengths bytes p s)))
+made-as L lengths bytes p s =
+    let r = slices-read lengths bytes p s in
+    rw (slices-fit lengths bytes p r) (ap (admitted L) (sym (slices-cut lengths bytes p r)))
 
-appended-unless : (L : Limits) (p : Path) (lengths bytes : List ℕ) → (appendSlice L p lengths bytes ≡ refused BadLengths) ↔ ((q : Path) → Slices lengths bytes q → ⊥)
+appended-unless : (L : Limits) (p : Path) (lengths bytes : List ℕ) → Bytes lengths → (appendSlice L p lengths bytes ≡ refused BadLengths) ↔ ((q : Path) → Slices lengths bytes q → ⊥)
 unfolding appendSlice
-appended-unless L p lengths bytes =
+appended-unless L p lengths bytes h =
     let q = p ++ cut (lengthsIn lengths) bytes in
-    Iff·trans (unless-fit (lengthsFit lengths bytes) (admitted L q) (admitted-lengths L q)) (none-fit lengths bytes)
+    Iff·trans (unless-fit (lengthsFit lengths bytes) (admitted L q) (admitted-lengths L q)) (none-fit lengths bytes h)
 
 appended-as : (L : Limits) (p : Path) (lengths bytes : List ℕ) (q : Path) → Slices lengths bytes q → appendSlice L p lengths bytes ≡ admitted L (p ++ q)
 unfolding appendSlice
-appended-as L p lengths bytes q s = rw (slices-fit lengths bytes q s) (ap (λ r. admitted L (p ++ r)) (sym (slices-cut lengths bytes q s)))
+appended-as L p lengths bytes q s =
+    let r = slices-read lengths bytes q s in
+    rw (slices-fit lengths bytes q r) (ap (λ t. admitted L (p ++ t)) (sym (slices-cut lengths bytes q r)))
 
 pub construction : Construction
 construction = record {
   admission = admission;
-  slices-only = λ lengths bytes p q s t. slices-cut lengths bytes p s ∙ sym (slices-cut lengths bytes q t);
-  slices-bytes = λ lengths bytes p h s. rw (slices-cut lengths bytes p s) (cut-bytes (lengthsIn lengths) bytes h);
+  slices-only = λ lengths bytes p q s t. slices-cut lengths bytes p (slices-read lengths bytes p s) ∙ sym (slices-cut lengths bytes q (slices-read lengths bytes q t));
+  slices-bytes = λ lengths bytes p h s. rw (slices-cut lengths bytes p (slices-read lengths bytes p s)) (cut-bytes (lengthsIn lengths) bytes h);
   made-unless = made-unless;
   made-as = made-as;
   appended-unless = appended-unless;

@@ -9,11 +9,11 @@ use lib.Dec.{eqb}
 use borrow.Author.Tests.{eqb-true, eq-eqb}
 use Rattle.willow.specs.declared.Order.{Order}
 use Rattle.willow.specs.declared.Order.the-variants.{Less, Equal}
-use Rattle.willow.specs.Entries.{Entry, age, Older, Prunes, place, PlaceBelow, compareAges, isNewer, prunes, comparePlaces, entryKey, compareEntries, sameEntry, EntryLaws}
+use Rattle.willow.specs.Entries.{Entry, age, Older, Prunes, place, PlaceBelow, EntryBelow, compareAges, isNewer, prunes, comparePlaces, entryKey, compareEntries, sameEntry, EntryLaws}
 use Rattle.willow.specs.Orders.{isEqual, Total, Decides, compareNumbers, compareLists, comparePairs, ListBelow, PairBelow}
-use Rattle.willow.specs.Paths.{PathBelow, comparePaths, isPrefixOf}
+use Rattle.willow.specs.Paths.{Path, PathBelow, comparePaths, isPrefixOf}
 use Rattle.willow.proofs.Bools.{both-true, decided-false}
-use Rattle.willow.proofs.OrderLaws.{isGreater-true, isEqual-true, numbers-total, numbers-decided, lists-total, lists-decided, pairs-total, pairs-decided, keyed-total, below-irreflexive, below-transitive, below-cases}
+use Rattle.willow.proofs.OrderLaws.{isGreater-true, isEqual-true, numbers-total, numbers-decided, lists-total, lists-decided, pairs-total, pairs-decided, keyed-total, keyed-decided, below-irreflexive, below-transitive, below-cases}
 use Rattle.willow.proofs.PathLaws.{paths-total, paths-decided, prefix-means, prefix-transitive, prefix-self}
 
 -- AGES: timestamp, then digest, then payload length.
@@ -77,11 +77,23 @@ entry-by-key a b e = λ i. record {
   digest = e i .1 .1 .1 .0;
 }
 
+abbrev compareWithin : (ℕ × Path) × (ℕ × (List ℕ × ℕ)) → (ℕ × Path) × (ℕ × (List ℕ × ℕ)) → Order
+compareWithin = comparePairs (comparePairs compareNumbers comparePaths) compareAge
+
+within-total : Total compareWithin
+within-total = pairs-total (comparePairs compareNumbers comparePaths) compareAge places-total ages-total
+
+keys-total : Total (comparePairs compareNumbers compareWithin)
+keys-total = pairs-total compareNumbers compareWithin numbers-total within-total
+
 pub entries-total : Total compareEntries
-entries-total = keyed-total entryKey entry-by-key
-    (comparePairs compareNumbers (comparePairs (comparePairs compareNumbers comparePaths) compareAge))
-    (pairs-total compareNumbers (comparePairs (comparePairs compareNumbers comparePaths) compareAge) numbers-total
-    (pairs-total (comparePairs compareNumbers comparePaths) compareAge places-total ages-total))
+entries-total = keyed-total entryKey entry-by-key (comparePairs compareNumbers compareWithin) keys-total
+
+entries-means : Decides compareEntries EntryBelow
+entries-means =
+    keyed-decided entryKey entry-by-key (comparePairs compareNumbers compareWithin) keys-total (PairBelow _<_ (PairBelow (PairBelow _<_ PathBelow) AgeBelow))
+    (pairs-decided compareNumbers compareWithin numbers-total within-total _<_ (PairBelow (PairBelow _<_ PathBelow) AgeBelow) numbers-decided
+    (pairs-decided (comparePairs compareNumbers comparePaths) compareAge places-total ages-total (PairBelow _<_ PathBelow) AgeBelow places-decided ages-decided))
 
 pub same-means : (a b : Entry) → (sameEntry a b ≡ true) ↔ (a ≡ b)
 unfolding sameEntry
@@ -160,4 +172,5 @@ entry-laws = record {
   places-total = places-total;
   places-means = places-means;
   entries-total = entries-total;
+  entries-means = entries-means;
 }

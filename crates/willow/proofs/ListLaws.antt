@@ -3,7 +3,7 @@
 use Prim.Native.Nat.{ℕ, zero, suc, _+_}
 use mathlib.Core.Path.{_≡_, refl, sym, _∙_, ap}
 use mathlib.Core.Logic.{_⊎_, inl, inr, _↔_}
-use mathlib.Core.List.{List, [], _∷_, _++_}
+use mathlib.Core.List.{List, [], _∷_, _++_, map}
 use mathlib.Core.Bool.{Bool, true, false, not, cond, false≢true}
 use native.Mathlib.Omega.{arith}
 use lib.ListN.{length, take, drop}
@@ -43,6 +43,15 @@ all-also P Q f (x ∷ xs) h = (f x (h .0), all-also P Q f xs (h .1))
 pub all-both : {A : Type 0} (P Q : A → Type 0) (l : List A) → All P l → All Q l → All (λ x. P x × Q x) l
 all-both P Q [] h k = tt
 all-both P Q (x ∷ xs) h k = ((h .0, k .0), all-both P Q xs (h .1) (k .1))
+
+-- what holds of every image holds of the images' list, and back
+pub all-mapped : {A B : Type 0} (f : A → B) (P : B → Type 0) (l : List A) → All (λ x. P (f x)) l → All P (map f l)
+all-mapped f P [] h = tt
+all-mapped f P (x ∷ xs) h = (h .0, all-mapped f P xs (h .1))
+
+pub mapped-all : {A B : Type 0} (f : A → B) (P : B → Type 0) (l : List A) → All P (map f l) → All (λ x. P (f x)) l
+mapped-all f P [] h = tt
+mapped-all f P (x ∷ xs) h = (h .0, mapped-all f P xs (h .1))
 
 module _ {A : Type 0} where
   -- SOME ELEMENT PASSES.

@@ -1,5 +1,6 @@
 -- Theorem 10: every row is computed.
 use mathlib.Core.Path.{refl}
+use Rattle.willow.specs.Answers.{limitsRefusal}
 use Rattle.willow.specs.Construction.{admitted, lengthsIn, lengthsFit, fromSlices}
 use Rattle.willow.specs.Entries.{isNewer, prunes, sameEntry}
 use Rattle.willow.specs.LeastPaths.{nextGreater, successor, greatest}
@@ -13,5 +14,5 @@ use Rattle.willow.specs.Ranges3d.{range3dFrom}
 use Rattle.willow.specs.Store.{offered, answerEntry, answer, after}
 
 pub marked-cases : MarkedCases
-unfolding admitted lengthsIn lengthsFit fromSlices isNewer prunes sameEntry nextGreater successor greatest acceptedLimits le unle numberAt compareNumbers pack packedCount unpack wellFormed lent intersection range3dFrom offered answerEntry answer after
+unfolding admitted lengthsIn lengthsFit fromSlices isNewer prunes sameEntry nextGreater successor greatest acceptedLimits limitsRefusal le unle numberAt compareNumbers pack packedCount unpack wellFormed lent intersection range3dFrom offered answerEntry answer after
 marked-cases = refl

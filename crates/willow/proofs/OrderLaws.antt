@@ -254,6 +254,10 @@ module _ {A K : Type 0} (key : A → K) (one : (x y : A) → key x ≡ key y →
     trans = λ x y z. t .trans (key x) (key y) (key z);
   }
 
+  pub keyed-decided : (Below : K → K → Type 0) → Decides c Below → Decides (λ x y. c (key x) (key y)) (λ x y. Below (key x) (key y))
+  keyed-decided Below d =
+      decides (λ x y. c (key x) (key y)) (λ x y. Below (key x) (key y)) keyed-total (λ x y. d .less (key x) (key y))
+
 -- LISTS.
 module _ {A : Type 0} (compare : A → A → Order) (t : Total compare) where
   list-same : (l m : List A) → compareLists compare l m ≡ Equal → l ≡ m

@@ -11,18 +11,19 @@ use borrow.Author.Tests.{ltb-false}
 use Rattle.willow.specs.declared.AreaSubspace.{AreaSubspace}
 use Rattle.willow.specs.declared.AreaSubspace.the-variants.{Any, Id}
 use Rattle.willow.specs.declared.Limits.{Limits}
+use Rattle.willow.specs.declared.Order.{Order}
 use Rattle.willow.specs.Areas.{Triplet, ValidTriplet, Area, SubspaceWord, ValidArea, InSubspace, InArea, PrunesSome}
 use Rattle.willow.specs.LeastPaths.{nextGreater}
 use Rattle.willow.specs.Limits.{maxWord}
-use Rattle.willow.specs.Orders.{Total, AtMost, compareNumbers, comparePairs}
+use Rattle.willow.specs.Orders.{Total, Decides, AtMost, compareNumbers, comparePairs, PairBelow}
 use Rattle.willow.specs.Paths.{Path, Valid, Prefix, PathBelow, isPrefixOf, comparePaths}
-use Rattle.willow.specs.Ranges.{closed, endless, Range, BeforeEnd, InRange, IsIntersection, includes, includesRange, intersection, compareRanges}
-use Rattle.willow.specs.Ranges3d.{Range3d, ValidRange3d, InRange3d, NonEmpty3d, Range3dIncluded, IsIntersection3d, PrunableByRule, includesTriplet3d, includesRange3d, range3dOf, intersection3d, range3dPrunable, subspaceRange, endAt, range3dFrom, range3dKey, compareRanges3d, Range3dLaws}
+use Rattle.willow.specs.Ranges.{closed, endless, Range, BeforeEnd, InRange, RangeBelow, IsIntersection, includes, includesRange, intersection, compareRanges}
+use Rattle.willow.specs.Ranges3d.{Range3d, ValidRange3d, InRange3d, NonEmpty3d, Range3dIncluded, IsIntersection3d, PrunableByRule, Range3dBelow, includesTriplet3d, includesRange3d, range3dOf, intersection3d, range3dPrunable, subspaceRange, endAt, range3dFrom, range3dKey, compareRanges3d, Range3dLaws}
 use Rattle.willow.proofs.Bools.{decided, conjunction-means, disjunction-means}
-use Rattle.willow.proofs.OrderLaws.{numbers-total, below-cases, below-irreflexive, at-most-below, at-most-number, pairs-total, keyed-total}
+use Rattle.willow.proofs.OrderLaws.{numbers-total, numbers-decided, below-cases, below-irreflexive, at-most-below, at-most-number, pairs-total, pairs-decided, keyed-total, keyed-decided}
 use Rattle.willow.proofs.PathLaws.{path-order, path-prefix, prefix-at-most, prefix-block}
 use Rattle.willow.proofs.LeastPathLaws.{least-paths}
-use Rattle.willow.proofs.RangeLaws.{before-lower, value-included, ranges-intersected, intersection-has, ranges-total, number-ranges, path-ranges}
+use Rattle.willow.proofs.RangeLaws.{before-lower, value-included, ranges-intersected, intersection-has, ranges-total, ranges-decided, number-ranges, path-ranges}
 use Rattle.willow.proofs.AreaLaws.{PrunedPlace, pruned-place, start-means}
 
 -- RANGES OF PATHS.
@@ -262,20 +263,41 @@ area-triplets L a v t w =
       λ h. record { subspace = s .1 (h .subspace); path = p .1 (h .path); time = h .time },
     )
 
--- THE ORDER.
+-- THE ORDER: by a key of three ranges.
+range3d-by-key : (r s : Range3d) → range3dKey r ≡ range3dKey s → r ≡ s
+range3d-by-key r s h = λ i. record { subspaces = h i .0; paths = h i .1 .0; times = h i .1 .1 }
+
+abbrev compareRest : Range Path × Range ℕ → Range Path × Range ℕ → Order
+compareRest = comparePairs (compareRanges comparePaths) (compareRanges compareNumbers)
+
+numbers-ordered : Total (compareRanges compareNumbers)
+numbers-ordered = ranges-total compareNumbers numbers-total
+
+paths-ordered : Total (compareRanges comparePaths)
+paths-ordered = ranges-total comparePaths (path-order .total)
+
+rest-total : Total compareRest
+rest-total = pairs-total (compareRanges comparePaths) (compareRanges compareNumbers) paths-ordered numbers-ordered
+
+rest-decided : Decides compareRest (PairBelow (RangeBelow PathBelow) (RangeBelow _<_))
+rest-decided =
+    pairs-decided (compareRanges comparePaths) (compareRanges compareNumbers) paths-ordered numbers-ordered (RangeBelow PathBelow) (RangeBelow _<_)
+    (ranges-decided comparePaths PathBelow (path-order .total) (path-order .means))
+    (ranges-decided compareNumbers _<_ numbers-total numbers-decided)
+
+keys-total : Total (comparePairs (compareRanges compareNumbers) compareRest)
+keys-total = pairs-total (compareRanges compareNumbers) compareRest numbers-ordered rest-total
+
 order-total : Total compareRanges3d
-order-total = keyed-total range3dKey one
-    (comparePairs (compareRanges compareNumbers) (comparePairs (compareRanges comparePaths) (compareRanges compareNumbers)))
-    (pairs-total (compareRanges compareNumbers) (comparePairs (compareRanges comparePaths) (compareRanges compareNumbers)) numbers rest)
-  where
-    numbers : Total (compareRanges compareNumbers)
-    numbers = ranges-total compareNumbers numbers-total
+order-total = keyed-total range3dKey range3d-by-key (comparePairs (compareRanges compareNumbers) compareRest) keys-total
 
-    rest : Total (comparePairs (compareRanges comparePaths) (compareRanges compareNumbers))
-    rest = pairs-total (compareRanges comparePaths) (compareRanges compareNumbers) (ranges-total comparePaths (path-order .total)) numbers
-
-    one : (r s : Range3d) → range3dKey r ≡ range3dKey s → r ≡ s
-    one r s h = λ i. record { subspaces = h i .0; paths = h i .1 .0; times = h i .1 .1 }
+order-means : Decides compareRanges3d Range3dBelow
+order-means =
+    keyed-decided range3dKey range3d-by-key (comparePairs (compareRanges compareNumbers) compareRest) keys-total
+    (PairBelow (RangeBelow _<_) (PairBelow (RangeBelow PathBelow) (RangeBelow _<_)))
+    (pairs-decided (compareRanges compareNumbers) compareRest numbers-ordered rest-total (RangeBelow _<_) (PairBelow (RangeBelow PathBelow) (RangeBelow _<_))
+    (ranges-decided compareNumbers _<_ numbers-total numbers-decided)
+    rest-decided)
 
 -- THEOREM 7, on 3d ranges.
 pub range3d-laws : (L : Limits) → Range3dLaws L
@@ -288,4 +310,5 @@ range3d-laws L = record {
   prunable-if = prunable-if L;
   area-triplets = area-triplets L;
   order-total = order-total;
+  order-means = order-means;
 }

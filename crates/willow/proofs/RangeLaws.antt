@@ -14,7 +14,7 @@ use Rattle.willow.specs.Orders.{isLess, isGreater, reverse, Total, Decid
 use Rattle.willow.specs.Paths.{Valid, PathBelow, comparePaths}
 use Rattle.willow.specs.Ranges.{End, closed, endless, Range, BeforeEnd, InRange, NonEmpty, EndBelow, bounds, RangeBelow, IsIntersection, compareEnds, endAbove, includes, includesRange, newClosed, laterStart, soonerEnd, intersection, compareRanges, EndHas, RangeLaws, Ranges}
 use Rattle.willow.proofs.Bools.{decided-false, conjunction-means}
-use Rattle.willow.proofs.OrderLaws.{less≢equal, less≢greater, equal≢greater, isLess-true, isGreater-true, decides, at-most-means, below-irreflexive, below-cases, at-most-below, at-most-transitive, below-transitive, numbers-total, numbers-decided, pairs-total, pairs-decided, keyed-total}
+use Rattle.willow.proofs.OrderLaws.{less≢equal, less≢greater, equal≢greater, isLess-true, isGreater-true, decides, at-most-means, below-irreflexive, below-cases, at-most-below, at-most-transitive, below-transitive, numbers-total, numbers-decided, pairs-total, pairs-decided, keyed-total, keyed-decided}
 use Rattle.willow.proofs.PathLaws.{path-order}
 
 one-of : {B : Type 0} (b : Bool) (x y : B) → (cond b x y ≡ x) ⊎ (cond b x y ≡ y)
@@ -91,11 +91,14 @@ module _ {A : Type 0} (compare : A → A → Order) (t : Total compare) where
   ends-total = record { same = end-same; self = end-self; flip = end-flip; trans = end-trans }
 
   -- A RANGE is known by its bounds.
+  pub range-by-bounds : (r s : Range A) → bounds r ≡ bounds s → r ≡ s
+  range-by-bounds r s h = λ i. record { start = h i .0; end = h i .1 }
+
+  pub bounds-total : Total (comparePairs compare (compareEnds compare))
+  bounds-total = pairs-total compare (compareEnds compare) t ends-total
+
   pub ranges-total : Total (compareRanges compare)
-  ranges-total = keyed-total bounds one (comparePairs compare (compareEnds compare)) (pairs-total compare (compareEnds compare) t ends-total)
-    where
-      one : (r s : Range A) → bounds r ≡ bounds s → r ≡ s
-      one r s h = λ i. record { start = h i .0; end = h i .1 }
+  ranges-total = keyed-total bounds range-by-bounds (comparePairs compare (compareEnds compare)) bounds-total
 
 module _ {A : Type 0} (compare : A → A → Order) (Below : A → A → Type 0) (t : Total compare) (d : Decides compare Below) where
   pub ends-decided : Decides (compareEnds compare) (EndBelow Below)
@@ -108,10 +111,9 @@ module _ {A : Type 0} (compare : A → A → Order) (Below : A → A → Type 0)
       less endless endless = (λ h. less≢equal (sym h), λ h. absurd h)
 
   pub ranges-decided : Decides (compareRanges compare) (RangeBelow Below)
-  ranges-decided = decides (compareRanges compare) (RangeBelow Below) (ranges-total compare t) (λ r s. pairs .less (bounds r) (bounds s))
-    where
-      pairs : Decides (comparePairs compare (compareEnds compare)) (PairBelow Below (EndBelow Below))
-      pairs = pairs-decided compare (compareEnds compare) t (ends-total compare t) Below (EndBelow Below) d ends-decided
+  ranges-decided =
+      keyed-decided bounds (range-by-bounds compare t) (comparePairs compare (compareEnds compare)) (bounds-total compare t) (PairBelow Below (EndBelow Below))
+      (pairs-decided compare (compareEnds compare) t (ends-total compare t) Below (EndBelow Below) d ends-decided)
 
   -- the test of an end
   above-means : (e : End A) (x : A) → (endAbove compare e x ≡ true) ↔ BeforeEnd Below x e

@@ -18,7 +18,7 @@ use Rattle.willow.specs.declared.Refusal.{Refusal}
 use Rattle.willow.specs.declared.Refusal.the-variants.{BadLimits, BadPath, OutTooSmall}
 use Rattle.willow.specs.declared.Tested.{Tested}
 use Rattle.willow.specs.declared.Tested.the-variants as tested
-use Rattle.willow.specs.Limits.{Accepted, acceptedLimits}
+use Rattle.willow.specs.Limits.{Accepted, acceptedLimits, acceptedCapacity}
 use Rattle.willow.specs.Numbers.{Bytes}
 use Rattle.willow.specs.Packed.{pack, unpack, lent, Lent}
 use Rattle.willow.specs.Paths.{Path}
@@ -56,6 +56,10 @@ unless none o = o
 -- 1, of limits that are passed as numbers.
 unfoldable pub limitsRefusal : Limits → Option Refusal
 limitsRefusal L = cond (acceptedLimits L) none (some BadLimits)
+
+-- 1, "sheet capacity N over 4,096".
+abbrev pub capacityRefusal : ℕ → Option Refusal
+capacityRefusal N = cond (acceptedCapacity N) none (some BadLimits)
 
 -- 5, of a lent path.
 abbrev pub pathMissing : Option Path → Option Refusal

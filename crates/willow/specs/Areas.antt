@@ -14,9 +14,9 @@ use Rattle.willow.specs.declared.Order.the-variants.{Less, Equal, Greate
 use Rattle.willow.specs.Entries.{Entry, Prunes, ValidEntry}
 use Rattle.willow.specs.Kinds.{ofKind}
 use Rattle.willow.specs.Limits.{maxWord}
-use Rattle.willow.specs.Orders.{isGreater, Total, compareNumbers, comparePairs}
-use Rattle.willow.specs.Paths.{Path, Valid, Prefix, isPrefixOf, isRelated, comparePaths}
-use Rattle.willow.specs.Ranges.{endless, Range, EndHas, InRange, NonEmpty, includes, includesRange, intersection, compareRanges}
+use Rattle.willow.specs.Orders.{isGreater, Total, Decides, compareNumbers, comparePairs, PairBelow}
+use Rattle.willow.specs.Paths.{Path, Valid, Prefix, PathBelow, isPrefixOf, isRelated, comparePaths}
+use Rattle.willow.specs.Ranges.{endless, Range, EndHas, InRange, NonEmpty, RangeBelow, includes, includesRange, intersection, compareRanges}
 
 -- Where an entry stands: its subspace id, its path, its timestamp.
 pub record Triplet : Type 0 where
@@ -100,6 +100,19 @@ abbrev pub NotTwoIds : AreaSubspace → AreaSubspace → Type 0
 NotTwoIds Any s = Unit {0}
 NotTwoIds (Id i) Any = Unit {0}
 NotTwoIds (Id i) (Id j) = i ≡ j
+
+-- The derived orders. Of subspaces: any before every id, and ids by their numbers.
+abbrev pub SubspaceBelow : AreaSubspace → AreaSubspace → Type 0
+SubspaceBelow Any Any = ⊥
+SubspaceBelow Any (Id j) = Unit {0}
+SubspaceBelow (Id i) Any = ⊥
+SubspaceBelow (Id i) (Id j) = i < j
+
+-- Of areas: by subspace, then path, then times.
+abbrev pub AreaBelow : Area → Area → Type 0
+AreaBelow a b =
+    PairBelow SubspaceBelow (PairBelow PathBelow (RangeBelow _<_))
+    (a .subspace, (a .path, a .times)) (b .subspace, (b .path, b .times))
 
 -- WHAT IS COMPUTED. On subspaces (`AreaSubspace` of area.rs):
 abbrev pub isAny : AreaSubspace → Bool
@@ -219,4 +232,6 @@ pub record AreaLaws (L : Limits) : Type 0 where
   pub prunable-only-if : (a : Area) (t : Triplet) → ValidArea L a → ValidTriplet L t → NonEmpty _<_ (a .times)
       → areaPrunable a t ≡ true → PrunesSome L (InArea a) t
   pub order-total : Total compareAreas
+  pub order-means : Decides compareAreas AreaBelow
   pub subspaces-total : Total compareSubspaces
+  pub subspaces-means : Decides compareSubspaces SubspaceBelow

@@ -1,11 +1,11 @@
 -- Areas of interest: an area with a count and a size.
-use Prim.Native.Nat.{ℕ, _≤_, min}
+use Prim.Native.Nat.{ℕ, _≤_, _<_, min}
 use mathlib.Core.Path.{_≡_}
 use mathlib.Core.Logic.{_⊎_}
 use mathlib.Core.Option.{Option, none, some}
 use Rattle.willow.specs.declared.Order.{Order}
-use Rattle.willow.specs.Areas.{Area, IsAreaIntersection, fullArea, areaIntersection, compareAreas}
-use Rattle.willow.specs.Orders.{Total, compareNumbers, comparePairs}
+use Rattle.willow.specs.Areas.{Area, IsAreaIntersection, AreaBelow, fullArea, areaIntersection, compareAreas}
+use Rattle.willow.specs.Orders.{Total, Decides, compareNumbers, comparePairs, PairBelow}
 
 pub record AreaOfInterest : Type 0 where
   pub area : Area
@@ -53,7 +53,13 @@ IsInterestIntersection a b (some m) =
     × Smaller (a .maxCount) (b .maxCount) (m .maxCount)
     × Smaller (a .maxSize) (b .maxSize) (m .maxSize)
 
+-- The derived order: by area, then count, then size.
+abbrev pub InterestBelow : AreaOfInterest → AreaOfInterest → Type 0
+InterestBelow a b =
+    PairBelow AreaBelow (PairBelow _<_ _<_) (a .area, (a .maxCount, a .maxSize)) (b .area, (b .maxCount, b .maxSize))
+
 -- THEOREM 7, on areas of interest.
 pub record InterestLaws : Type 0 where
   pub intersected : (a b : AreaOfInterest) → IsInterestIntersection a b (interestIntersection a b)
   pub order-total : Total compareInterest
+  pub order-means : Decides compareInterest InterestBelow

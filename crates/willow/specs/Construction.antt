@@ -9,8 +9,9 @@ use lib.ListN.{length, take, drop}
 use Rattle.willow.specs.declared.Limits.{Limits}
 use Rattle.willow.specs.declared.Refusal.the-variants.{BadLengths, PathTooLong, TooManyComponents, ComponentTooLong}
 use Rattle.willow.specs.Refusals.{Outcome, refused, value}
+use Rattle.willow.specs.Limits.{maxWord}
 use Rattle.willow.specs.Lists.{In, All, any}
-use Rattle.willow.specs.Numbers.{Bytes, unle}
+use Rattle.willow.specs.Numbers.{Bytes, le, unle}
 use Rattle.willow.specs.Packed.{joined}
 use Rattle.willow.specs.Paths.{Component, Path, pathLength, Valid}
 
@@ -67,23 +68,28 @@ pub record Admission (L : Limits) (p : Path) : Type 0 where
       ↔ ((pathLength p ≤ L .mpl) × (length p ≤ L .mcc) × SomeTooLong L p)
   pub valid : (q : Path) → (admitted L p ≡ value q) ↔ ((q ≡ p) × Valid L p)
 
--- The components that lengths and bytes stand for: the buffer of lengths is one of whole 8-byte numbers, these are the
--- components' lengths, and the components joined are the bytes.
+-- A buffer of lengths: each as an 8-byte number, one behind the other.
+abbrev pub lengthBuffer : List ℕ → List ℕ
+lengthBuffer [] = []
+lengthBuffer (n ∷ ns) = le 8 n ++ lengthBuffer ns
+
+-- The components that lengths and bytes stand for: the lengths are the buffer of theirs, each of which has 64 bits, and the
+-- components joined are the bytes.
 pub record Slices (lengths bytes : List ℕ) (p : Path) : Type 0 where
-  pub numbers-whole : length lengths % 8 ≡ 0
-  pub sizes : map length p ≡ lengthsIn lengths
+  pub sizes : lengths ≡ lengthBuffer (map length p)
+  pub words : All (λ c. length c ≤ maxWord) p
   pub content : joined p ≡ bytes
 
 -- Refusal 6 is given exactly if there are no such components; else there is one list of them, made of the bytes lent, and what
--- is answered is what `admitted` says of it.
+-- is answered is what `admitted` says of it. The premises say that what is lent is made of bytes, as empty buffers are.
 pub record Construction : Type 0 where
   pub admission : (L : Limits) (p : Path) → All Bytes p → Admission L p
   pub slices-only : (lengths bytes : List ℕ) (p q : Path) → Slices lengths bytes p → Slices lengths bytes q → p ≡ q
   pub slices-bytes : (lengths bytes : List ℕ) (p : Path) → Bytes bytes → Slices lengths bytes p → All Bytes p
   pub made-unless : (L : Limits) (lengths bytes : List ℕ)
-      → (fromSlices L lengths bytes ≡ refused BadLengths) ↔ ((p : Path) → Slices lengths bytes p → ⊥)
+      → Bytes lengths → (fromSlices L lengths bytes ≡ refused BadLengths) ↔ ((p : Path) → Slices lengths bytes p → ⊥)
   pub made-as : (L : Limits) (lengths bytes : List ℕ) (p : Path) → Slices lengths bytes p → fromSlices L lengths bytes ≡ admitted L p
   pub appended-unless : (L : Limits) (p : Path) (lengths bytes : List ℕ)
-      → (appendSlice L p lengths bytes ≡ refused BadLengths) ↔ ((q : Path) → Slices lengths bytes q → ⊥)
+      → Bytes lengths → (appendSlice L p lengths bytes ≡ refused BadLengths) ↔ ((q : Path) → Slices lengths bytes q → ⊥)
   pub appended-as : (L : Limits) (p : Path) (lengths bytes : List ℕ) (q : Path) → Slices lengths bytes q
       → appendSlice L p lengths bytes ≡ admitted L (p ++ q)

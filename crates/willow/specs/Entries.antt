@@ -11,7 +11,7 @@ use Rattle.willow.specs.declared.Order.{Order}
 use Rattle.willow.specs.declared.Order.the-variants.{Less}
 use Rattle.willow.specs.Limits.{maxWord}
 use Rattle.willow.specs.Numbers.{Bytes}
-use Rattle.willow.specs.Orders.{isGreater, isEqual, Total, compareNumbers, compareLists, comparePairs, ListBelow, PairBelow}
+use Rattle.willow.specs.Orders.{isGreater, isEqual, Total, Decides, compareNumbers, compareLists, comparePairs, ListBelow, PairBelow}
 use Rattle.willow.specs.Paths.{Path, Valid, Prefix, PathBelow, isPrefixOf, comparePaths}
 
 -- "Namespace, subspace, path by its components, timestamp, payload length, digest. These make an offer's entry."
@@ -58,6 +58,12 @@ place e = (e .subspace, e .path)
 abbrev pub PlaceBelow : Entry → Entry → Type 0
 PlaceBelow a b = PairBelow _<_ PathBelow (place a) (place b)
 
+-- The derived order: by namespace, then place, then age.
+abbrev pub EntryBelow : Entry → Entry → Type 0
+EntryBelow a b =
+    PairBelow _<_ (PairBelow (PairBelow _<_ PathBelow) (PairBelow _<_ (PairBelow (ListBelow _<_) _<_)))
+    (a .namespace, (place a, age a)) (b .namespace, (place b, age b))
+
 -- WHAT IS COMPUTED.
 abbrev pub compareAges : Entry → Entry → Order
 compareAges a b = comparePairs compareNumbers (comparePairs (compareLists compareNumbers) compareNumbers) (age a) (age b)
@@ -103,3 +109,4 @@ pub record EntryLaws : Type 0 where
   pub places-total : Total (comparePairs compareNumbers comparePaths)
   pub places-means : (a b : Entry) → (comparePlaces a b ≡ Less) ↔ PlaceBelow a b
   pub entries-total : Total compareEntries
+  pub entries-means : Decides compareEntries EntryBelow

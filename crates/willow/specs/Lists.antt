@@ -3,7 +3,7 @@ use Prim.Native.Nat.{ℕ, _+_}
 use mathlib.Core.Path.{_≡_}
 use mathlib.Core.Logic.{_⊎_}
 use mathlib.Core.List.{List, [], _∷_}
-use mathlib.Core.Bool.{Bool, false, _||_, cond}
+use mathlib.Core.Bool.{Bool, true, false, _&&_, _||_, cond}
 
 -- x is in the list.
 abbrev pub In : {A : Type 0} → A → List A → Type 0
@@ -36,6 +36,11 @@ Number P l n = Sum (λ x. 1) (λ before x. P x) [] l n
 abbrev pub any : {A : Type 0} → (A → Bool) → List A → Bool
 any test [] = false
 any test (x ∷ xs) = test x || any test xs
+
+-- Computed: every element passes the test.
+abbrev pub every : {A : Type 0} → (A → Bool) → List A → Bool
+every test [] = true
+every test (x ∷ xs) = test x && every test xs
 
 -- Computed: the elements that pass the test, in their order.
 abbrev pub filter : {A : Type 0} → (A → Bool) → List A → List A

@@ -3,16 +3,15 @@ use Prim.Native.Nat.{ℕ}
 use mathlib.Core.Path.{_≡_}
 use mathlib.Core.List.{List, [], _∷_, _++_, map}
 use mathlib.Core.Option.{Option, none, some}
-use mathlib.Core.Bool.{cond}
 use lib.ListN.{length, replicate}
 use Rattle.willow.specs.declared.AreaSubspace.the-variants.{Any}
 use Rattle.willow.specs.declared.Limits.{Limits}
+use Rattle.willow.specs.declared.Refusal.{Refusal}
+use Rattle.willow.specs.Answers.{limitsRefusal}
 use Rattle.willow.specs.Areas.{Area, fullTimes}
-use Rattle.willow.specs.Construction.{fromSlices}
+use Rattle.willow.specs.Construction.{fromSlices, lengthBuffer}
 use Rattle.willow.specs.Entries.{digestLength}
 use Rattle.willow.specs.LeastPaths.{nextGreater, successor, greatest}
-use Rattle.willow.specs.Limits.{acceptedLimits}
-use Rattle.willow.specs.Numbers.{le}
 use Rattle.willow.specs.Orders.{compareNumbers}
 use Rattle.willow.specs.Packed.{pack}
 use Rattle.willow.specs.Paths.{Path}
@@ -54,9 +53,9 @@ replyOutcome (refused r) = refusal (refusalNumber r)
 replyOutcome absent = noPath
 replyOutcome (value p) = path p
 
-abbrev pub lengthBuffer : List ℕ → List ℕ
-lengthBuffer [] = []
-lengthBuffer (n ∷ ns) = le 8 n ++ lengthBuffer ns
+abbrev pub replyRefusal : Option Refusal → Reply
+replyRefusal none = accepted
+replyRefusal (some r) = refusal (refusalNumber r)
 
 abbrev pub zeroBytes : List ℕ → List ℕ
 zeroBytes [] = []
@@ -73,7 +72,7 @@ ask (successorOf L p) = replyPath (successor L p)
 ask (nextGreaterOf L p) = replyPath (nextGreater L p)
 ask (greatestUnder L) = path (greatest L)
 ask (pathOfLengths L ns) = replyOutcome (fromSlices L (lengthBuffer ns) (zeroBytes ns))
-ask (underLimits L) = cond (acceptedLimits L) accepted (refusal 1)
+ask (underLimits L) = replyRefusal (limitsRefusal L)
 ask (bothRanges r s) = range (intersection compareNumbers r s)
 ask (pathEnd L p) = end (range3dFrom L (areaWith p) .paths .end)
 ask (offers L N cs) = totals (answers (sizesOf L N) fresh cs) (run (sizesOf L N) fresh cs .held) (run (sizesOf L N) fresh cs .letGo)

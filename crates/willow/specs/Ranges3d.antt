@@ -13,9 +13,9 @@ use Rattle.willow.specs.declared.Order.{Order}
 use Rattle.willow.specs.Areas.{Triplet, ValidTriplet, Area, ValidArea, InArea, PrunesSome}
 use Rattle.willow.specs.LeastPaths.{nextGreater}
 use Rattle.willow.specs.Limits.{maxWord}
-use Rattle.willow.specs.Orders.{isGreater, Total, compareNumbers, comparePairs}
+use Rattle.willow.specs.Orders.{isGreater, Total, Decides, compareNumbers, comparePairs, PairBelow}
 use Rattle.willow.specs.Paths.{Path, Valid, Prefix, PathBelow, isPrefixOf, comparePaths}
-use Rattle.willow.specs.Ranges.{End, closed, endless, Range, EndHas, InRange, NonEmpty, includes, includesRange, intersection, compareRanges}
+use Rattle.willow.specs.Ranges.{End, closed, endless, Range, EndHas, InRange, NonEmpty, RangeBelow, includes, includesRange, intersection, compareRanges}
 
 pub record Range3d : Type 0 where
   pub subspaces : Range ℕ
@@ -59,6 +59,12 @@ PrunableByRule r t =
     InRange _<_ (r .subspaces) (t .subspace)
     × (r .times .start ≤ t .time)
     × (InRange PathBelow (r .paths) (t .path) ⊎ (Prefix (t .path) (r .paths .start) ⊎ Prefix (r .paths .start) (t .path)))
+
+-- The derived order: by subspaces, then paths, then times.
+abbrev pub Range3dBelow : Range3d → Range3d → Type 0
+Range3dBelow r s =
+    PairBelow (RangeBelow _<_) (PairBelow (RangeBelow PathBelow) (RangeBelow _<_))
+    (r .subspaces, (r .paths, r .times)) (s .subspaces, (s .paths, s .times))
 
 -- WHAT IS COMPUTED.
 unfoldable pub fullRange3d : Range3d
@@ -140,3 +146,4 @@ pub record Range3dLaws (L : Limits) : Type 0 where
   pub area-triplets : (a : Area) → ValidArea L a → (t : Triplet) → ValidTriplet L t
       → InRange3d (range3dFrom L a) t ↔ InArea a t
   pub order-total : Total compareRanges3d
+  pub order-means : Decides compareRanges3d Range3dBelow
