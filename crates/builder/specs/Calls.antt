@@ -71,8 +71,9 @@ grownBuffer s c out = law.grownBuffer (stateIn s) c out
 abbrev pub buildRefusal : Builder → List ℕ → Option Refusal
 buildRefusal s out = law.buildRefusal (stateIn s) out
 
--- THE THEOREMS ON STATES ARE THEOREMS ON THE CALLS. What a call hands back holds the state that `BuilderTheorem` and
--- `BuilderAcceptance` (crate builder_law) speak of: a start the state of its numbers, an append the grown state.
+-- THE THEOREMS ON STATES ARE THEOREMS ON THE CALLS. What a call hands back holds the state that `BuilderTheorem`,
+-- `BuilderAcceptance` and `BuilderTable` (crate builder_law) speak of: a start the state of its numbers, an append the grown
+-- state.
 pub record StatesAgree : Type 0 where
   pub at-the-start : (L : Limits) (length count appended : ℕ) → stateIn (stateOf L length count appended) ≡ law.stateOf L length count appended
   pub after-an-append : (s : Builder) → stateIn (grown s) ≡ law.grown (stateIn s)

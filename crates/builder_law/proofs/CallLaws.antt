@@ -241,11 +241,11 @@ module _ (s : State) (c : Component) (out : List ℕ) where
 -- A BUILD: behind the state 12, 15.
 module _ (s : State) (out : List ℕ) where
   -- 12 by the length: of the components that are read, or where none can be read, of nothing
-  short-read : longEnough s out ≡ true → lengthShort s out ≡ ltb (pathLength (appendedPath s out)) (s .length)
+  pub short-read : longEnough s out ≡ true → lengthShort s out ≡ ltb (pathLength (appendedPath s out)) (s .length)
   unfolding lengthShort
   short-read h = ap (λ b. cond b (ltb (pathLength (appendedPath s out)) (s .length)) (eqb (s .appended) 0 && ltb 0 (s .length))) h
 
-  short-unread : longEnough s out ≡ false → lengthShort s out ≡ (eqb (s .appended) 0 && ltb 0 (s .length))
+  pub short-unread : longEnough s out ≡ false → lengthShort s out ≡ (eqb (s .appended) 0 && ltb 0 (s .length))
   unfolding lengthShort
   short-unread h = ap (λ b. cond b (ltb (pathLength (appendedPath s out)) (s .length)) (eqb (s .appended) 0 && ltb 0 (s .length))) h
 

@@ -3,3 +3,4 @@ pub mod CallLaws
 pub mod HoldsLaws
 pub mod AcceptanceLaws
 pub mod RunLaws
+pub mod TableLaws

@@ -83,7 +83,7 @@ overfilled s count bytes moreComponents moreBytes =
     cond (ltb (s .count) (count + moreComponents) || ltb (s .length) (bytes + moreBytes)) (some Overfilled) none
 
 -- 12: "a build with count or length short of what was declared". Where the buffer is too short to be read, the length is
--- certainly short only if nothing is appended.
+-- judged only where nothing is appended, as docs/DECISIONS.md decides.
 unfoldable pub lengthShort : State → List ℕ → Bool
 lengthShort s out =
     cond (longEnough s out) (ltb (pathLength (appendedPath s out)) (s .length)) (eqb (s .appended) 0 && ltb 0 (s .length))

@@ -1,3 +1,4 @@
 pub mod Building
 pub mod Runs
 pub mod Acceptance
+pub mod Table
