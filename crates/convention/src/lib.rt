@@ -1,6 +1,6 @@
 // How answers become numbers for a host in another language. Such a host passes plain numbers and byte buffers and gets numbers
-// back: an exported call is one call of the core, whose answer one of these four functions turns into a status and a value. A
-// test gives its status alone.
+// back: an exported call is one call of the core, whose answer becomes a status and values. For a test, yes or no, an order and a
+// count these four functions do that; an answer of another form has a function beside the export. A test gives its status alone.
 
 use willow::Asked;
 use willow::Compared;

@@ -1,4 +1,4 @@
-// The calls of `entry` for a host in another language: newer, pruning, equality and the two orders of entries.
+// The calls of `entry_questions` for a host in another language: newer, pruning, equality and the two orders of entries.
 //
 // A slice is a pointer and then a length, a digest a pointer to 32 bytes; limits are three numbers MCL, MCC, MPL. An entry is
 // its namespace, its subspace, a path with its count, its timestamp, its payload length and its digest, in this order; a call

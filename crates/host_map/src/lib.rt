@@ -1,4 +1,5 @@
-// The calls of `map_test`, `area_map` and the listing of `map_listing` for a host in another language.
+// The calls of `map_making`, `map_test`, `area_map` and `map_listing` for a host in another language: a map made fresh, tested, inserted
+// into and listed.
 //
 // A map is a sheet in a lent buffer, and its limits stand in it. An area is the kind of its subspaces (0 any, 1 one id), an id, the
 // packed path as a buffer with a count beside it, and the start, the kind of the end (0 open, 1 closed) and the end of its times; a

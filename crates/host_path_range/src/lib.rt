@@ -1,4 +1,4 @@
-// The calls of `path_range` for a host in another language: ranges and ends of paths.
+// The calls of `path_range` and `path_end` for a host in another language: ranges and ends of paths.
 //
 // A range is the packed path of its start as a buffer with a count beside it, the kind of its end (0 open, 1 closed), and the packed
 // path of its end with a count; an end is the last three of them. What stands beside kind 0 is not read. A slice is a pointer and then

@@ -1,5 +1,6 @@
 // An area as a 3d range (`range_3d_intersection`, `from_area`) for a host in another language. The area is passed as in `host_area`;
-// the call refuses 1, then 3, then 5, then 15.
+// the call refuses 1, then 3, then 5, then 15. Nothing is required of the host but that a buffer is as long as it says and that the buffer
+// to write overlaps no other.
 
 use area_kinds::AreaRead;
 use range_3d::Range3d;

@@ -1,8 +1,8 @@
-// The calls of `reading` for a host in another language: whether a buffer is a path or a component, and how many components and
+// The calls of `reading` and the tests of `lent_path` for a host in another language: whether a buffer is a path or a component, and how many components and
 // bytes a path and its parts have.
 //
 // A slice is a pointer and then a length; limits are three numbers MCL, MCC, MPL. Nothing is required of the host but that a
-// buffer is as long as it says and that two buffers to write do not overlap.
+// buffer is as long as it says.
 
 use convention::Answer;
 use convention::asked;

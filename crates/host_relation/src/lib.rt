@@ -2,7 +2,7 @@
 // two paths have in common.
 //
 // A slice is a pointer and then a length; limits are three numbers MCL, MCC, MPL. Nothing is required of the host but that a
-// buffer is as long as it says and that two buffers to write do not overlap.
+// buffer is as long as it says.
 
 use convention::Answer;
 use convention::asked;

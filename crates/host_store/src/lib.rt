@@ -1,4 +1,4 @@
-// The calls of `store_test` and `store` for a host in another language: a store made fresh, tested, and offered to.
+// The calls of `store_making`, `store_test` and `store` for a host in another language: a store made fresh, tested, and offered to.
 //
 // A store is a sheet in a lent buffer; its limits, its capacity and its namespace stand in it. An entry is its namespace, its
 // subspace, a packed path with its count, its timestamp, its payload length and its digest, in this order. A slice is a pointer and

@@ -11,6 +11,7 @@ use map_form::MPL_AT;
 use map_form::START_AT;
 use map_form::SUBSPACE_AT;
 use map_form::SUBSPACE_KIND_AT;
+use map_form::VALUE_AT;
 use range::Range;
 use sheet::inner as rows;
 use willow::AreaSubspace;
@@ -86,5 +87,5 @@ pub fn rule_value(sheet: &[u8], i: usize) -> u64
     requires { ⌜ (isMap (now sheet) ≡ true) × (i < countIn (now sheet)) ⌝ }
     ensures { λ r. ⌜ r ≡ ruleIn (mapRow (now (sheet .entry)) i) .value ⌝ }
 {
-    number::read_u64(rows::record_part(sheet, MAP_FRONT, MAP_HEAD, i), 40)
+    number::read_u64(rows::record_part(sheet, MAP_FRONT, MAP_HEAD, i), VALUE_AT)
 }

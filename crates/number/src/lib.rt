@@ -1,5 +1,5 @@
 // Bytes in lent memory: 8-byte little-endian numbers, copies, moves, the zero test and the zero fill.
-// These are the leaves under every call. They are not open to a caller: each requires that what it touches lies inside.
+// These are the leaves under every call. They are not open to a caller: all but `is_zero` require that what they touch lies inside.
 
 ghost use mathlib.Core.Bool.{_&&_};
 ghost use mathlib.Core.Path.{_≡_};

@@ -2,6 +2,7 @@
 
 use sheet::inner as rows;
 use store_form::MAX_DEPTH;
+use store_form::PAYLOAD_LENGTH_AT;
 use store_form::STORE_FRONT;
 use store_form::STORE_HEAD;
 use store_rows::inner as entries;
@@ -127,7 +128,7 @@ pub fn sums_to(s: &[u8], limits: Limits, capacity: usize, n: usize, held: u64) -
     let mut rest = held;
     let mut i: usize = 0;
     while i < n {
-        let x = number::read_u64(rows::record_part(s, STORE_FRONT, STORE_HEAD, i), 16);
+        let x = number::read_u64(rows::record_part(s, STORE_FRONT, STORE_HEAD, i), PAYLOAD_LENGTH_AT);
         if rest < x {
             return false;
         }
