@@ -33,7 +33,8 @@ pub record ListedByTable (z : MapSizes) (rules : List Rule) (x : AreaArgument) (
   pub lists : GoodKinds x → LendsPath z x → Lists z rules x o
 
 -- For every map, whatever follows it in its buffer, and every area that is passed; and 2 exactly if no map's layout begins the buffer.
--- The premises are what the types of the arguments say: bytes, as in empty buffers.
+-- The premises are that the buffers hold bytes and, for the table, that one begins with a map: 40 zero bytes are one, of limits 0 and no
+-- rules, and an empty buffer lends no path.
 pub record ListingOnBytes : Type 0 where
   pub by-table : (s : List ℕ) (z : MapSizes) (rules : List Rule) (x : AreaArgument) → Bytes (x .buffer) → IsMap s z rules
       → ListedByTable z rules x (listing s x)

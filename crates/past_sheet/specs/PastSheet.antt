@@ -15,7 +15,8 @@ use Rattle.store_form.specs.StoreTest.{storeRefusal}
 use Rattle.store_law.specs.Offers.{answerIn}
 use Rattle.store_reading.specs.Held.{numbersRead, entryRead}
 
--- OF A MAP: its test, an insertion, a listing, and reading it.
+-- OF A MAP: its test, an insertion, a listing, and reading it. The premises are met by 40 zero bytes, a map of limits 0 and no rules, with
+-- nothing behind them in one buffer and any bytes in the other.
 pub record MapAnsweredAlike (s t : List ℕ) : Type 0 where
   pub tested : mapRefusal s ≡ mapRefusal t
   pub inserted : (x : Insertion) → insertAnswer s x ≡ insertAnswer t x
@@ -27,7 +28,7 @@ pub record MapAnsweredAlike (s t : List ℕ) : Type 0 where
 abbrev pub MapPastSheet : Type 0
 MapPastSheet = (s t : List ℕ) (z : MapSizes) (rules : List Rule) → IsMap s z rules → IsMap t z rules → MapAnsweredAlike s t
 
--- OF A STORE: its test, an offer, and reading it.
+-- OF A STORE: its test, an offer, and reading it. The premises are met by 64 zero bytes, likewise.
 pub record StoreAnsweredAlike (s t : List ℕ) : Type 0 where
   pub tested : storeRefusal s ≡ storeRefusal t
   pub offered : (c : Call) → answerIn s c ≡ answerIn t c

@@ -11,6 +11,6 @@ abbrev pub prefixCount : ℕ → ℕ → ℕ
 prefixCount k own = min k own
 
 -- WHAT A PREFIX OF A VIEW IS: where a view lends a path, the view with the smaller count lends the first k components of that path,
--- and all of it where it has no more than k.
+-- and all of it where it has no more than k. Eight zero bytes with the count 0 lend the empty path.
 abbrev pub ViewPrefix : Type 0
 ViewPrefix = (L : Limits) (b : List ℕ) (own k : ℕ) (p : Path) → Lent L b own p → Lent L b (prefixCount k own) (take k p)

@@ -42,7 +42,8 @@ cellFits L c =
     && (wellFormed L (usedPart c)
     && allZero (drop (usedBytes c) c))))
 
--- WHAT IT MEANS: it is the cell of a valid path, which is the one read. The premises are met by an empty cell and all limits.
+-- WHAT IT MEANS: it is the cell of a valid path, which is the one read. The premises are met by limits of 0, the empty path and a cell
+-- of eight zero bytes.
 pub record CellLaws (L : Limits) : Type 0 where
   pub cell-means : (c : List ℕ) → Words L → Bytes c
       → (cellFits L c ≡ true) ↔ ((p : Path) × Valid L p × (length (pack p) ≤ length c) × (c ≡ pathCell (length c) p))

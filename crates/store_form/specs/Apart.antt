@@ -51,6 +51,8 @@ OneNamespace n es = All (λ e. e .namespace ≡ n) es
 abbrev pub NonePrunes : List Entry → Type 0
 NonePrunes es = (o e : Entry) → In o es → In e es → Prunes o e → ⊥
 
+-- The test means what it is to mean for entries of one namespace in ascending order, as the empty list and every store's are; and the
+-- held prefixes that it carries along are at most one more than a path has components.
 pub record ApartTheorem : Type 0 where
   pub ascending : (es : List Entry) → (ascends es ≡ true) ↔ Ascending PlaceBelow es
   pub none-prunes : (n : ℕ) (es : List Entry) → OneNamespace n es → Ascending PlaceBelow es → (clearFrom [] es ≡ true) ↔ NonePrunes es

@@ -37,7 +37,8 @@ scanned e a [] = a
 scanned e a (h ∷ hs) = scanned e (met e a h) hs
 
 -- WHAT IT MEANS, for entries as a store holds them, all of the offer's namespace. Where no held entry prunes the offer, the numbers of
--- what the offer prunes are found; and where it repeats none either, its place among those that are left.
+-- what the offer prunes are found; and where it repeats none either, its place among those that are left. An empty store and any offer
+-- meet all premises.
 pub record ScanTheorem : Type 0 where
   pub finds-outdated : (e : Entry) (hs : List Entry) → scanned e nothingMet hs .outdated ≡ any (λ h. prunes h e) hs
   pub finds-repeat : (n : ℕ) (e : Entry) (hs : List Entry) → OneNamespace n (e ∷ hs) → any (λ h. prunes h e) hs ≡ false

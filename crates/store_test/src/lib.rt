@@ -1,5 +1,5 @@
-// The test of a lent store (document 01, "Sheets"): one pass over its bytes, and comparisons of paths that are linear in the number
-// of entries.
+// The test of a lent store (document 01, "Sheets"): passes over its rows, each linear in their number, the comparisons of paths among
+// them.
 
 pub mod inner;
 

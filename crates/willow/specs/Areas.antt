@@ -214,7 +214,8 @@ abbrev pub withAnySubspace : Area → Area
 withAnySubspace a = record { subspace = Any; path = a .path; times = a .times }
 
 -- THEOREM 6. What is computed is what is meant. Its premises are valid areas, as the one of any subspace, the empty path and
--- all times; and, where areas are compared as sets, that the included one's start is below its end.
+-- all times; valid triplets, as subspace 0, the empty path and time 0; and, where areas are compared as sets, that the included one's
+-- start is below its end.
 pub record AreaLaws (L : Limits) : Type 0 where
   pub triplet-included : (a : Area) (t : Triplet) → (includesTriplet a t ≡ true) ↔ InArea a t
   pub area-included : (a b : Area) → ValidArea L a → ValidArea L b → NonEmpty _<_ (b .times)
