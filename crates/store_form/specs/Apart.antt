@@ -51,8 +51,7 @@ OneNamespace n es = All (λ e. e .namespace ≡ n) es
 abbrev pub NonePrunes : List Entry → Type 0
 NonePrunes es = (o e : Entry) → In o es → In e es → Prunes o e → ⊥
 
--- The test means what it is to mean for entries of one namespace in ascending order, as the empty list and every store's are; and the
--- held prefixes that it carries along are at most one more than a path has components.
+-- The empty list meets the premises, and so do the entries of every store.
 pub record ApartTheorem : Type 0 where
   pub ascending : (es : List Entry) → (ascends es ≡ true) ↔ Ascending PlaceBelow es
   pub none-prunes : (n : ℕ) (es : List Entry) → OneNamespace n es → Ascending PlaceBelow es → (clearFrom [] es ≡ true) ↔ NonePrunes es
