@@ -19,7 +19,7 @@ use Rattle.number.specs.Records.{laid}
 use Rattle.sheet.specs.Cells.{cellSizeOf, pathCell, cellPath}
 use Rattle.sheet.specs.Rows.{Shape, Row, head, cell, rowsOf, sheetBytes}
 
--- A rule: "rules by area", an area with a value.
+-- A rule: an area with a value.
 pub record Rule : Type 0 where
   pub area : Area
   pub value : ℕ

@@ -3,3 +3,4 @@ pub mod ArgumentLaws
 pub mod TableLaws
 pub mod StepLaws
 pub mod TheoremProof
+pub mod RefusalLaws

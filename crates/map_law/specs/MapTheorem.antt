@@ -5,7 +5,8 @@ use mathlib.Core.Logic.{_↔_}
 use mathlib.Core.List.{List, [], _∷_, _++_}
 use lib.ListN.{length, drop}
 use Rattle.willow.specs.declared.Limits.{Limits}
-use Rattle.willow.specs.declared.Refusal.the-variants.{BadKind, BadPath, NoRoom}
+use Rattle.willow.specs.declared.Refusal.{Refusal}
+use Rattle.willow.specs.declared.Refusal.the-variants.{BadLimits, BadSheet, BadKind, BadPath, NoRoom}
 use Rattle.willow.specs.declared.AreaSubspace.the-variants.{Any, Id}
 use Rattle.willow.specs.Answers.{writtenBuffer}
 use Rattle.willow.specs.Areas.{Area}
@@ -13,14 +14,15 @@ use Rattle.willow.specs.Ranges.{closed, endless}
 use Rattle.willow.specs.Kinds.{Says, GoodKind}
 use Rattle.willow.specs.Limits.{Accepted, maxCapacity}
 use Rattle.willow.specs.Lists.{All}
+use Rattle.willow.specs.Numbers.{Bytes}
 use Rattle.willow.specs.Packed.{Lent}
 use Rattle.willow.specs.Paths.{Path}
 use Rattle.willow.specs.Refusals.{Outcome, refused, absent, value}
 use Rattle.sheet.specs.Rows.{sheetLength}
-use Rattle.map_form.specs.Maps.{MapSizes, mapShape, Rule, mapLayout}
+use Rattle.map_form.specs.Maps.{MapSizes, mapShape, Rule, mapLayout, IsMap}
 use Rattle.map_law.specs.Insertions.{freshMap, AreaArgument, Insertion, Passed, insertAnswer, insertLeaves}
 
--- Each call "gets it as the one before left it": the bytes after a list of insertions, and their answers.
+-- Each insertion gets the map as the one before left it: the bytes after a list of insertions, and their answers.
 abbrev pub bytesAfter : List ℕ → List Insertion → List ℕ
 bytesAfter s [] = s
 bytesAfter s (x ∷ xs) = bytesAfter (insertLeaves s x) xs
@@ -84,3 +86,18 @@ abbrev pub MapTheorem : Type 0
 MapTheorem = (L : Limits) (N : ℕ) (out : List ℕ) (xs : List Insertion) → Accepted L → N ≤ maxCapacity
     → sheetLength (mapShape (record { limits = L; capacity = N })) ≤ length out → All Passed xs
     → MapAfter (record { limits = L; capacity = N }) (writtenBuffer (freshMap L N) out) out xs
+
+-- BESIDE IT, the refusals that no list of insertions into a fresh map shows. "1 BadLimits: passed as numbers: MCL over 1,024, MCC over
+-- 1,024, MPL over 4,096, or sheet capacity N over 4,096": a fresh map is so refused exactly if its sizes are not accepted.
+abbrev pub FreshMapRefused : Type 0
+FreshMapRefused = (L : Limits) (N : ℕ) → (freshMap L N ≡ refused BadLimits) ↔ (Accepted L × (N ≤ maxCapacity) → ⊥)
+
+-- "2 BadSheet: a lent sheet is too short, breaks its layout below, or holds sizes over those bounds": exactly if no proper map's layout
+-- begins the buffer, whatever is inserted. The premise is that a buffer holds bytes, as an empty one does.
+abbrev pub RefusedAsNoMap : Type 0
+RefusedAsNoMap = (s : List ℕ) (x : Insertion) → Bytes s
+    → (insertAnswer s x ≡ refused BadSheet) ↔ ((z : MapSizes) (rules : List Rule) → IsMap s z rules → ⊥)
+
+-- "A refusal leaves all lent memory byte for byte as found": every refusal, of every buffer.
+abbrev pub InsertionRefusedUnchanged : Type 0
+InsertionRefusedUnchanged = (s : List ℕ) (x : Insertion) (r : Refusal) → insertAnswer s x ≡ refused r → insertLeaves s x ≡ s

@@ -5,15 +5,17 @@ use mathlib.Core.Path.{_≡_, refl, sym, _∙_, ap}
 use mathlib.Core.List.{List, [], _∷_, _++_}
 use mathlib.Core.Option.{Option, none, some}
 use mathlib.Core.Bool.{true, false}
+use native.Mathlib.Omega.{arith}
+use lib.ListN.{take}
 use Rattle.willow.specs.declared.Limits.{Limits}
 use Rattle.willow.specs.declared.Refusal.{Refusal}
 use Rattle.willow.specs.declared.Refusal.the-variants.{BadLimits, BadPath}
 use Rattle.willow.specs.declared.Tested.{Tested}
 use Rattle.willow.specs.declared.Tested.the-variants as tested
-use Rattle.willow.specs.Answers.{testedRefusal, orElse, limitsRefusal, lentRefusal, pathRefusal}
+use Rattle.willow.specs.Answers.{testedRefusal, orElse, limitsRefusal, lentRefusal, pathIn, pathRefusal}
 use Rattle.willow.specs.Limits.{Accepted, acceptedLimits}
 use Rattle.willow.specs.Lists.{All}
-use Rattle.willow.specs.Packed.{lent}
+use Rattle.willow.specs.Packed.{unpack, lent, Lent}
 use Rattle.willow.specs.Paths.{Path}
 use Rattle.willow.specs.Refusals.{Outcome, refused}
 use Rattle.willow.proofs.AnswerLaws as limits
@@ -161,10 +163,21 @@ one-not-lent L (p ∷ ps) h a n = go (lent L (p .0) (p .1)) refl (one-not-lent L
         let l = packed-form .lent-some L (p .0) (p .1) (accepted-words L a) (h .0) q .0 e in
         rw e (rest (λ ls. n ((q, l), ls)))
 
+-- What is read of a lent path is that path: its packed form is read back.
+lent-read : (L : Limits) (b : List ℕ) (k : ℕ) (q : Path) → Accepted L → Lent L b k q → pathIn b k ≡ q
+unfolding pathIn
+lent-read L b k q a l =
+    let w = accepted-words L a in
+    let m = w .mcc-word in
+    let n = w .mpl-word in
+    let v = l .valid in
+    ap (λ x. take k (unpack x)) (l .packed) ∙ ap (take k) (packed-form .read-back (l .whole) (omega arith) (omega arith)) ∙ sym (l .first)
+
 pub lent-questions : LentQuestions
 unfolding onLent
 lent-questions = record {
   limits = λ L ps o n. rw (limits-refused L ps n);
   path = λ L ps o h a n. rw (limits-fine L ps a, one-not-lent L ps h a n);
   asked = λ L ps o h a l. rw (limits-fine L ps a, all-lent L ps h a l);
+  read = lent-read;
 }

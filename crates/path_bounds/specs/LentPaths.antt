@@ -6,7 +6,7 @@ use mathlib.Core.Option.{Option, none}
 use Rattle.willow.specs.declared.Limits.{Limits}
 use Rattle.willow.specs.declared.Refusal.{Refusal}
 use Rattle.willow.specs.declared.Refusal.the-variants.{BadLimits, BadPath}
-use Rattle.willow.specs.Answers.{orElse, unless, limitsRefusal, lentRefusal}
+use Rattle.willow.specs.Answers.{orElse, unless, limitsRefusal, lentRefusal, pathIn}
 use Rattle.willow.specs.Limits.{Accepted}
 use Rattle.willow.specs.Lists.{All}
 use Rattle.willow.specs.Numbers.{Bytes}
@@ -39,10 +39,12 @@ HoldsBytes p = Bytes (p .0)
 abbrev pub IsLent : Limits → LentPath → Type 0
 IsLent L p = (q : Path) × Lent L (p .0) (p .1) q
 
--- 1 exactly if the limits are not accepted; then 5 exactly if one of the paths is not lent; else the answer.
+-- 1 exactly if the limits are not accepted; then 5 exactly if one of the paths is not lent; else the answer. The answers are computed
+-- of `pathIn`, and what it reads of a lent path is that path: the premises of this are met by limits of 0 and the packed empty path.
 pub record LentQuestions : Type 1 where
   pub limits : {A : Type 0} (L : Limits) (ps : List LentPath) (o : Outcome A) → (Accepted L → ⊥) → onLent L ps o ≡ refused BadLimits
   pub path : {A : Type 0} (L : Limits) (ps : List LentPath) (o : Outcome A) → All HoldsBytes ps → Accepted L
       → (All (IsLent L) ps → ⊥) → onLent L ps o ≡ refused BadPath
   pub asked : {A : Type 0} (L : Limits) (ps : List LentPath) (o : Outcome A) → All HoldsBytes ps → Accepted L
       → All (IsLent L) ps → onLent L ps o ≡ o
+  pub read : (L : Limits) (b : List ℕ) (k : ℕ) (q : Path) → Accepted L → Lent L b k q → pathIn b k ≡ q

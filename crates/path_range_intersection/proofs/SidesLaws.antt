@@ -5,9 +5,12 @@ use mathlib.Core.List.{List}
 use mathlib.Core.Option.{none, some, Option·none-ne-some, Option·some-injective}
 use mathlib.Core.Bool.{Bool, true, false, cond}
 use Rattle.willow.specs.declared.Order.{Order}
-use Rattle.willow.specs.Orders.{isLess, isGreater}
+use Rattle.willow.specs.declared.Order.the-variants.{Equal}
+use Rattle.willow.specs.Orders.{isLess, isGreater, Total}
+use Rattle.willow.specs.Paths.{comparePaths}
 use Rattle.willow.specs.Ranges.{End, closed, endless, Range, compareEnds, endAbove, laterStart, soonerEnd, intersection}
 use Rattle.willow.specs.Refusals.{absent, value}
+use Rattle.willow.proofs.PathLaws.{paths-total}
 use Rattle.path_bounds.specs.declared.PathEnd.{PathEnd}
 use Rattle.path_bounds.specs.declared.PathEnd.the-variants.{Closed, Open}
 use Rattle.path_bounds.specs.LentRanges.{pathEndOf}
@@ -51,6 +54,18 @@ module _ {A : Type 0} (compare : A → A → Order) where
       go false (closed v) = refl
       go false endless = refl
 
+  -- OF EQUAL VALUES the second's is named, since they compare as equal.
+  module _ (total : Total compare) where
+    second-start : (a b : A) → a ≡ b → laterSide compare a b ≡ side.Second
+    second-start a b h = rw (h, total .self b)
+
+    second-end : (d e : End A) → d ≡ e → endSide compare d e ≡ secondEnd e
+    second-end d e h = ap (λ x. endSide compare x e) h ∙ ap (λ o. cond (isLess o) ending.First (secondEnd e)) (same e)
+      where
+        same : (e : End A) → compareEnds compare e e ≡ Equal
+        same (closed v) = total .self v
+        same endless = refl
+
   -- The answer, by the test that the end is above the start.
   pub sides-by : (r s : Range A) (a : Side) (e : EndSide) (t : Bool)
       → a ≡ laterSide compare (r .start) (s .start)
@@ -79,9 +94,9 @@ module _ {A : Type 0} (compare : A → A → Order) where
       go true n e = Option·some-injective n m e
       go false n e = absurd (Option·none-ne-some m e)
 
-  pub sides-theorem : SidesTheorem compare
+  pub sides-theorem : Total compare → SidesTheorem compare
   unfolding sidesMet
-  sides-theorem = record {
+  sides-theorem total = record {
     none-met = λ r s e. ap (sidesFor compare r s) e;
     sides-met = λ r s m e.
         let h = met-is r s m e in (
@@ -90,5 +105,11 @@ module _ {A : Type 0} (compare : A → A → Order) where
           ap (sidesFor compare r s) e,
           start-at (r .start) (s .start) ∙ ap (λ (n : Range A). n .start) h,
           end-at (r .end) (s .end) ∙ ap (λ (n : Range A). n .end) h,
+          second-start total (r .start) (s .start),
+          second-end total (r .end) (s .end),
         );
   }
+
+-- Of paths.
+pub sides-of-paths : SidesTheorem comparePaths
+sides-of-paths = sides-theorem comparePaths paths-total

@@ -1,4 +1,5 @@
--- What the intersection of two lent ranges answers: whose start and whose end stands, "the second's where they are equal".
+-- What the intersection of two lent ranges answers: whose start and whose end stands. Where both are equal it is the second's, as in
+-- an area intersection: "the second's if they are equal".
 use mathlib.Core.Path.{_≡_}
 use mathlib.Core.Option.{Option, none, some}
 use mathlib.Core.Bool.{cond}
@@ -56,9 +57,12 @@ secondSide (pathEnd.Closed k) = ending.Second
 secondSide pathEnd.Open = ending.Open
 
 -- WHAT THE ANSWER MEANS, of the intersection that `willow` defines: there is none exactly if there is no intersection, and else
--- the sides stand for its start and its end.
+-- the sides stand for its start and its end. Where both inputs have the same start, or the same end, either side would stand for it:
+-- there the second's is named, and an open end as open. So no other answer has this. It is true of the comparison of every total order,
+-- as that of paths is.
 pub record SidesTheorem {A : Type 0} (compare : A → A → Order) : Type 0 where
   pub none-met : (r s : Range A) → intersection compare r s ≡ none → sidesMet compare r s ≡ absent
   pub sides-met : (r s m : Range A) → intersection compare r s ≡ some m
       → (a : Side) × (e : EndSide) × (sidesMet compare r s ≡ value (a, e))
       × (startAt a (r .start) (s .start) ≡ m .start) × (endAt e (r .end) (s .end) ≡ m .end)
+      × (r .start ≡ s .start → a ≡ side.Second) × (r .end ≡ s .end → e ≡ secondEnd (s .end))

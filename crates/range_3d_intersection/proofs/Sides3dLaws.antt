@@ -12,7 +12,7 @@ use Rattle.range.specs.NumberRanges.{rangeOr}
 use Rattle.path_range_intersection.specs.declared.EndSide.{EndSide}
 use Rattle.path_range_intersection.specs.declared.Side.{Side}
 use Rattle.path_range_intersection.specs.Sides.{sidesFor, sidesMet}
-use Rattle.path_range_intersection.proofs.SidesLaws.{sides-theorem}
+use Rattle.path_range_intersection.proofs.SidesLaws.{sides-of-paths}
 use Rattle.range_3d_intersection.specs.Sides3d.{Standing3d, sidesFor3d, sidesMet3d, Sides3dTheorem}
 
 -- What was found of the paths, of the times and of the subspaces, one behind the other.
@@ -85,12 +85,14 @@ sides3d-theorem = record {
   none-met = λ r s e. ap (sidesFor3d r s) e;
   sides-met = λ r s m e.
       let h = parts r s m e in
-      let (a, d, is, start, end) = sides-theorem comparePaths .sides-met (r .paths) (s .paths) (m .paths) (h .paths) in (
+      let (a, d, is, start, end, second-start, second-end) = sides-of-paths .sides-met (r .paths) (s .paths) (m .paths) (h .paths) in (
         record { subspaces = m .subspaces; start = a; end = d; times = m .times },
         sym (stands r s (value (a, d)) (value (m .times)) (value (m .subspaces)) (sym is) (sym (ap rangeOr (h .times))) (sym (ap rangeOr (h .subspaces)))),
         refl,
         refl,
         start,
         end,
+        second-start,
+        second-end,
       );
 }

@@ -16,7 +16,8 @@ use Rattle.path_bounds.specs.declared.PathEnd.{PathEnd}
 use Rattle.path_bounds.specs.declared.PathEnd.the-variants.{Closed, Open}
 use Rattle.path_range_intersection.specs.declared.EndSide.{EndSide}
 use Rattle.path_range_intersection.specs.declared.Side.{Side}
-use Rattle.path_range_intersection.specs.Sides.{startAt, endAt, laterSide, endSide}
+use Rattle.path_range_intersection.specs.declared.Side.the-variants as side
+use Rattle.path_range_intersection.specs.Sides.{startAt, endAt, laterSide, secondEnd, endSide}
 use Rattle.range_3d.specs.declared.Range3d as code
 use Rattle.range_3d.specs.LentRanges3d.{range3dOf}
 use Rattle.range_3d_intersection.specs.declared.Converted.{Converted}
@@ -49,7 +50,8 @@ metOutcome (met.Refused r) = refused r
 metOutcome met.Nothing = absent
 metOutcome (met.Are m) = value (record { subspaces = rangeOf (m .subspaces); start = m .start; end = m .end; times = rangeOf (m .times) })
 
--- What it means, of the intersection that `willow` defines: the sides stand for the start and the end of its range of paths.
+-- What it means, of the intersection that `willow` defines: the sides stand for the start and the end of its range of paths; where
+-- both inputs have the same one the second's is named, and an open end as open.
 pub record Sides3dTheorem : Type 0 where
   pub none-met : (r s : Range3d) → intersection3d r s ≡ none → sidesMet3d r s ≡ absent
   pub sides-met : (r s m : Range3d) → intersection3d r s ≡ some m
@@ -57,6 +59,8 @@ pub record Sides3dTheorem : Type 0 where
       × (x .subspaces ≡ m .subspaces) × (x .times ≡ m .times)
       × (startAt (x .start) (r .paths .start) (s .paths .start) ≡ m .paths .start)
       × (endAt (x .end) (r .paths .end) (s .paths .end) ≡ m .paths .end)
+      × (r .paths .start ≡ s .paths .start → x .start ≡ side.Second)
+      × (r .paths .end ≡ s .paths .end → x .end ≡ secondEnd (s .paths .end))
 
 -- AN AREA AS A 3D RANGE. A 3d range by the counts of its paths: the paths themselves stand in two buffers.
 pub record Counts3d : Type 0 where

@@ -81,7 +81,7 @@ demand3-on-bytes z out cs l n m h q =
     }
 
 -- A REFUSED CALL.
-refused-stays : (z : Sizes) (t : State) (c : Call) → isRefused (answer z t c) ≡ true → after z t c ≡ t
+pub refused-stays : (z : Sizes) (t : State) (c : Call) → isRefused (answer z t c) ≡ true → after z t c ≡ t
 unfolding after
 refused-stays z t (offer o) = go (offered z o) (answer z t (offer o))
   where

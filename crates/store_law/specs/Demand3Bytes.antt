@@ -1,7 +1,11 @@
 -- DEMAND 3, WHOLE, ON BYTES.
 --
--- "For every list of offers from a fresh store, refused ones included, the sheet is byte for byte the one that document 01 lays out
--- for the unrefused entries that no other prunes, with held and let-go totals exactly as stated there."
+-- "For every list of offers from a fresh store, refused ones included, each given the sheet as the one before left it and nobody else
+-- writing there, the store at the list's end holds exactly the entries of the unrefused offers that no other such entry prunes, each
+-- one time, by subspace and then path. Held bytes = the payload bytes of these entries. Let-go bytes = the payload bytes of every
+-- unrefused offer that repeats an earlier unrefused one or is pruned by another, earlier or later, each such offer counted once, even
+-- if both are true of it. Held + let-go = the payload bytes of all unrefused offers. Byte for byte the sheet is the one that document
+-- 01 lays out for these entries and totals, wherever the list ends."
 --
 -- Document 01, "What the promises carry", sentence by sentence:
 -- "Demand 3 is a single claim about a whole list of offers and not one for each call": `Demand3OnBytes`, over every list of calls.

@@ -1,2 +1,3 @@
+pub mod AnyStore
 pub mod Demand3Bytes
 pub mod Offers
