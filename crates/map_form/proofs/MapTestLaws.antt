@@ -8,13 +8,13 @@ use lib.ListN.{length, take, drop}
 use borrow.Author.Tests.{leb-true, le-leb}
 use Rattle.willow.specs.declared.Limits.{Limits}
 use Rattle.willow.specs.Limits.{Accepted, maxCapacity}
-use Rattle.willow.specs.Lists.{All}
+use Rattle.willow.specs.Lists.{All, every}
 use Rattle.willow.proofs.Bools.{both-true, true-both}
 use Rattle.willow.proofs.LimitLaws.{limit-laws}
 use Rattle.number.specs.Overwriting.{allZero}
 use Rattle.sheet.specs.Rows.{Shape, Room, cellsFrom, sheetLength, rowsOf}
 use Rattle.map_form.specs.Maps.{MapSizes, mapNumbers, mapShape, sizesIn, countIn}
-use Rattle.map_form.specs.MapTest.{every, rowFits, rowsFit, sizesFit, isMap}
+use Rattle.map_form.specs.MapTest.{rowFits, rowsFit, sizesFit, isMap}
 
 -- Every element passes exactly if each does.
 module _ {A : Type 0} (f : A → Bool) where

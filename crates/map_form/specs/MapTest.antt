@@ -2,7 +2,7 @@
 use Prim.Native.Nat.{ℕ, _+_, _*_, _-_}
 use mathlib.Core.Path.{_≡_}
 use mathlib.Core.Logic.{_↔_}
-use mathlib.Core.List.{List, [], _∷_}
+use mathlib.Core.List.{List}
 use mathlib.Core.Option.{Option, none, some}
 use mathlib.Core.Bool.{Bool, true, _&&_, cond}
 use lib.Dec.{eqb, leb}
@@ -11,16 +11,12 @@ use Rattle.willow.specs.declared.Limits.{Limits}
 use Rattle.willow.specs.declared.Refusal.{Refusal}
 use Rattle.willow.specs.declared.Refusal.the-variants.{BadSheet}
 use Rattle.willow.specs.Limits.{acceptedLimits, acceptedCapacity}
+use Rattle.willow.specs.Lists.{every}
 use Rattle.willow.specs.Numbers.{Bytes, numberAt}
 use Rattle.number.specs.Overwriting.{allZero}
 use Rattle.sheet.specs.Cells.{cellFits}
 use Rattle.sheet.specs.Rows.{Shape, Row, head, cell, rowsOf, cellsFrom, sheetLength}
 use Rattle.map_form.specs.Maps.{MapSizes, mapNumbers, mapShape, Rule, IsMap, sizesIn, countIn, rulesIn}
-
--- Every element passes the test.
-abbrev pub every : {A : Type 0} → (A → Bool) → List A → Bool
-every f [] = true
-every f (x ∷ xs) = f x && every f xs
 
 -- A kind that stands in a sheet: 0 with the number 0 beside it, or 1.
 abbrev pub kindFits : ℕ → ℕ → Bool

@@ -7,10 +7,10 @@ use lib.Dec.{eqb}
 use lib.ListN.{drop}
 use Rattle.willow.specs.declared.Limits.{Limits}
 use Rattle.willow.specs.declared.Refusal.{Refusal}
-use Rattle.willow.specs.declared.Refusal.the-variants.{BadLimits, BadKind, NoRoom}
-use Rattle.willow.specs.Answers.{orElse, unless, limitsRefusal, lentRefusal, pathIn}
+use Rattle.willow.specs.declared.Refusal.the-variants.{BadKind, NoRoom}
+use Rattle.willow.specs.Answers.{orElse, unless, limitsRefusal, capacityRefusal, lentRefusal, pathIn}
 use Rattle.willow.specs.Areas.{Area}
-use Rattle.willow.specs.Limits.{acceptedCapacity, maxWord}
+use Rattle.willow.specs.Limits.{maxWord}
 use Rattle.willow.specs.Numbers.{Bytes}
 use Rattle.willow.specs.Refusals.{Outcome, value}
 use Rattle.sheet.specs.Rows.{sheetLength}
@@ -19,9 +19,6 @@ use Rattle.map_form.specs.Maps.{mapShape, Rule, mapLayout, sizesIn, countIn, ru
 use Rattle.map_form.specs.MapTest.{mapRefusal}
 
 -- A FRESH MAP. 1, for the limits and "sheet capacity N over 4,096"; then the layout of no rules.
-abbrev pub capacityRefusal : ℕ → Option Refusal
-capacityRefusal N = cond (acceptedCapacity N) none (some BadLimits)
-
 unfoldable pub freshMap : Limits → ℕ → Outcome (List ℕ)
 freshMap L N = unless (orElse (limitsRefusal L) (capacityRefusal N)) (value (mapLayout (record { limits = L; capacity = N }) []))
 

@@ -7,7 +7,7 @@ use native.Mathlib.Omega.{arith}
 use native.Mathlib.Numerals.{add-one}
 use lib.ListN.{length, take, drop, getD, drop-of-length-le}
 use lib.Seq.{drop-cons, getD-take, length-take-le}
-use Rattle.map_form.specs.MapTest.{every}
+use Rattle.willow.specs.Lists.{every}
 
 module _ {A : Type 0} (f : A → Bool) (xs : List A) (n : ℕ) (long : n ≤ length xs) where
   taken-long : length (take n xs) ≡ n

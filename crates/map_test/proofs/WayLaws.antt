@@ -19,7 +19,8 @@ use Rattle.sheet.specs.Cells.{cellSizeOf, cellFits}
 use Rattle.sheet.specs.Rows.{Shape, Room, head, cell, rowAt, rowsOf, zeroRow, sheetLength}
 use Rattle.sheet.proofs.RowLaws.{fitting-rows, head-at, cell-at}
 use Rattle.map_form.specs.Maps.{MapSizes, mapNumbers, mapShape, sizesIn, countIn}
-use Rattle.map_form.specs.MapTest.{every, kindFits, headFits, rowFits, rowsFit, sizesFit, isMap}
+use Rattle.willow.specs.Lists.{every}
+use Rattle.map_form.specs.MapTest.{kindFits, headFits, rowFits, rowsFit, sizesFit, isMap}
 use Rattle.map_form.proofs.MapTestLaws.{sizes-passed}
 
 -- A HEAD, by the numbers that were read: its first kind does not fit, or it does and the second decides.

@@ -19,7 +19,8 @@ ghost use lib.ListN.{length, take};
 ghost use Rattle.sheet.specs.Cells.{cellSizeOf};
 ghost use Rattle.sheet.specs.Rows.{Room, rowAt, rowsOf};
 ghost use Rattle.map_form.specs.Maps.{mapHeadSize, mapShape};
-ghost use Rattle.map_form.specs.MapTest.{every, headFits, isMap, kindFits, rowFits, rowsFit, sizesFit};
+ghost use Rattle.willow.specs.Lists.{every};
+ghost use Rattle.map_form.specs.MapTest.{headFits, isMap, kindFits, rowFits, rowsFit, sizesFit};
 
 // A kind that stands in a sheet: 0 with the number 0 beside it, or 1.
 fn kind_fits(kind: u64, n: u64) -> bool

@@ -10,7 +10,7 @@ use borrow.Author.Tests.{leb-true, le-leb, eqb-true, eq-eqb}
 use Rattle.willow.specs.declared.Limits.{Limits}
 use Rattle.willow.specs.Entries.{Entry}
 use Rattle.willow.specs.Limits.{Accepted, maxCapacity, maxWord}
-use Rattle.willow.specs.Lists.{All}
+use Rattle.willow.specs.Lists.{All, every}
 use Rattle.willow.specs.Store.{Sizes, payloads}
 use Rattle.willow.proofs.Bools.{both-true, true-both}
 use Rattle.willow.proofs.LimitLaws.{limit-laws}
@@ -19,7 +19,7 @@ use Rattle.sheet.specs.Cells.{cellFits}
 use Rattle.sheet.specs.Rows.{Shape, cell, Room, rowsOf, cellsFrom, sheetLength}
 use Rattle.store_form.specs.Apart.{ascends, clearFrom}
 use Rattle.store_form.specs.Stores.{storeNumbers, storeShape, sizesIn, countIn, heldIn, letGoIn, entryIn}
-use Rattle.store_form.specs.StoreTest.{every, entriesFit, rowsFit, sizesFit, isStore}
+use Rattle.store_form.specs.StoreTest.{entriesFit, rowsFit, sizesFit, isStore}
 
 -- Every element passes.
 pub every-all : {A : Type 0} (f : A → Bool) (xs : List A) → (every f xs ≡ true) ↔ All (λ x. f x ≡ true) xs

@@ -2,7 +2,7 @@
 use Prim.Native.Nat.{ℕ, _+_, _*_, _-_}
 use mathlib.Core.Path.{_≡_}
 use mathlib.Core.Logic.{_↔_}
-use mathlib.Core.List.{List, [], _∷_, map}
+use mathlib.Core.List.{List, [], map}
 use mathlib.Core.Option.{Option, none, some}
 use mathlib.Core.Bool.{Bool, true, _&&_, cond}
 use lib.Dec.{eqb, leb}
@@ -12,18 +12,14 @@ use Rattle.willow.specs.declared.Refusal.{Refusal}
 use Rattle.willow.specs.declared.Refusal.the-variants.{BadSheet}
 use Rattle.willow.specs.Entries.{Entry}
 use Rattle.willow.specs.Limits.{acceptedLimits, acceptedCapacity, maxWord}
+use Rattle.willow.specs.Lists.{every}
 use Rattle.willow.specs.Numbers.{Bytes}
 use Rattle.willow.specs.Store.{Sizes, State, payloads}
 use Rattle.number.specs.Overwriting.{allZero}
 use Rattle.sheet.specs.Cells.{cellFits}
-use Rattle.sheet.specs.Rows.{Shape, Row, cell, rowsOf, cellsFrom, sheetLength}
+use Rattle.sheet.specs.Rows.{Shape, cell, rowsOf, cellsFrom, sheetLength}
 use Rattle.store_form.specs.Apart.{ascends, clearFrom}
-use Rattle.store_form.specs.Stores.{storeNumbers, storeShape, IsStore, sizesIn, countIn, heldIn, letGoIn, entryIn, usedRows, stateIn}
-
--- Every element passes the test.
-abbrev pub every : {A : Type 0} → (A → Bool) → List A → Bool
-every f [] = true
-every f (x ∷ xs) = f x && every f xs
+use Rattle.store_form.specs.Stores.{storeNumbers, storeShape, IsStore, sizesIn, countIn, heldIn, letGoIn, entryIn, stateIn}
 
 -- The rows in use: their cells hold paths, their entries ascend, none prunes another, their payload lengths are the held bytes; and
 -- the other rows are zero.

@@ -1,13 +1,12 @@
 -- The store's calls on bytes: what they answer, and the bytes that they leave.
 use Prim.Native.Nat.{ℕ}
 use mathlib.Core.List.{List, [], _∷_, _++_}
-use mathlib.Core.Option.{Option, none, some}
+use mathlib.Core.Option.{Option}
 use mathlib.Core.Bool.{cond}
 use lib.ListN.{drop}
 use Rattle.willow.specs.declared.Refusal.{Refusal}
-use Rattle.willow.specs.declared.Refusal.the-variants.{BadLimits, BadSheet}
-use Rattle.willow.specs.Answers.{orElse, unless, limitsRefusal}
-use Rattle.willow.specs.Limits.{acceptedCapacity}
+use Rattle.willow.specs.declared.Refusal.the-variants.{BadSheet}
+use Rattle.willow.specs.Answers.{orElse, unless, limitsRefusal, capacityRefusal}
 use Rattle.willow.specs.Refusals.{Outcome, value}
 use Rattle.willow.specs.Store.{Sizes, fresh, Call, Answer, refused, answer, after}
 use Rattle.sheet.specs.Rows.{sheetLength}
@@ -15,9 +14,6 @@ use Rattle.store_form.specs.Stores.{storeShape, storeLayout, sizesIn, stateIn}
 use Rattle.store_form.specs.StoreTest.{isStore}
 
 -- A FRESH STORE. 1, for the limits and "sheet capacity N over 4,096"; then the layout of a fresh state.
-abbrev pub capacityRefusal : ℕ → Option Refusal
-capacityRefusal N = cond (acceptedCapacity N) none (some BadLimits)
-
 abbrev pub sizesRefusal : Sizes → Option Refusal
 sizesRefusal z = orElse (limitsRefusal (z .limits)) (capacityRefusal (z .capacity))
 

@@ -21,7 +21,7 @@ use Rattle.sheet.specs.Rows.{Row, cell, zeroRow, cellsFrom, Room, rowsOf, rowAt
 use Rattle.sheet.proofs.RowLaws.{fitting-rows}
 use Rattle.store_form.specs.Apart.{ascends}
 use Rattle.store_form.specs.Stores.{storeHeadSize, storeShape, entryIn}
-use Rattle.store_form.specs.StoreTest.{every}
+use Rattle.willow.specs.Lists.{every}
 use Rattle.store_rows.specs.EntryRows.{sizesOf, rowEntry}
 use Rattle.store_rows.proofs.RowEntryLaws.{row-head, row-head-length, row-cell, row-cell-inside}
 

@@ -19,7 +19,7 @@ ghost use Rattle.sheet.specs.Cells.{cellFits};
 ghost use Rattle.sheet.specs.Rows.{cell, Room, rowsOf};
 ghost use Rattle.store_form.specs.Apart.{ascends, clearFrom, covering, nearestOlder};
 ghost use Rattle.store_form.specs.Stores.{entryIn, storeShape};
-ghost use Rattle.store_form.specs.StoreTest.{every};
+ghost use Rattle.willow.specs.Lists.{every};
 ghost use Rattle.store_rows.specs.EntryRows.{RowsReadable, rowEntry, sizesOf};
 ghost use Rattle.store_passes.specs.Positions.{Positions, entriesAt};
 
@@ -128,7 +128,10 @@ pub fn sums_to(s: &[u8], limits: Limits, capacity: usize, n: usize, held: u64) -
     let mut rest = held;
     let mut i: usize = 0;
     while i < n {
-        let x = number::read_u64(rows::record_part(s, STORE_FRONT, STORE_HEAD, i), PAYLOAD_LENGTH_AT);
+        let x = number::read_u64(
+            rows::record_part(s, STORE_FRONT, STORE_HEAD, i),
+            PAYLOAD_LENGTH_AT,
+        );
         if rest < x {
             return false;
         }

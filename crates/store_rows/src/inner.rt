@@ -84,8 +84,14 @@ pub fn row_covers(s: &[u8], limits: Limits, capacity: usize, n: usize, i: usize,
     requires { ⌜ RowsReadable limits capacity n (now s) × (i < n) × (j < n) ⌝ }
     ensures { λ r. ⌜ r ≡ covers (rowEntry limits capacity (now (s .entry)) i) (rowEntry limits capacity (now (s .entry)) j) ⌝ }
 {
-    let a = number::read_u64(rows::record_part(s, STORE_FRONT, STORE_HEAD, i), SUBSPACE_AT);
-    let b = number::read_u64(rows::record_part(s, STORE_FRONT, STORE_HEAD, j), SUBSPACE_AT);
+    let a = number::read_u64(
+        rows::record_part(s, STORE_FRONT, STORE_HEAD, i),
+        SUBSPACE_AT,
+    );
+    let b = number::read_u64(
+        rows::record_part(s, STORE_FRONT, STORE_HEAD, j),
+        SUBSPACE_AT,
+    );
     if a == b {
         let p = path_at(s, limits, capacity, n, i);
         let q = path_at(s, limits, capacity, n, j);

@@ -20,7 +20,8 @@ use Rattle.sheet.specs.Cells.{cellSizeOf, cellFits}
 use Rattle.sheet.specs.Rows.{cell, sheetLength, Room}
 use Rattle.store_form.specs.Apart.{ascends, clearFrom}
 use Rattle.store_form.specs.Stores.{storeShape, sizesIn, countIn, heldIn, letGoIn}
-use Rattle.store_form.specs.StoreTest.{every, entriesFit, rowsFit, sizesFit, isStore}
+use Rattle.willow.specs.Lists.{every}
+use Rattle.store_form.specs.StoreTest.{entriesFit, rowsFit, sizesFit, isStore}
 use Rattle.store_form.proofs.TestedLaws.{every-all, SizesTested, passes, is-store-passes}
 use Rattle.store_rows.specs.EntryRows.{sizesOf, RowsReadable}
 use Rattle.store_passes.proofs.LeftLaws.{used, entries}

@@ -6,7 +6,8 @@ use lib.ListN.{length, take, drop}
 use borrow.Author.Needs.{needs}
 use denote.Ref.{now}
 use Rattle.sheet.specs.Rows.{rowsOf}
-use Rattle.map_form.specs.MapTest.{every, rowFits}
+use Rattle.willow.specs.Lists.{every}
+use Rattle.map_form.specs.MapTest.{rowFits}
 use Rattle.map_test.proofs.EveryLaws.{every-passes, every-fails, every-end}
 use Rattle.map_test.proofs.WayLaws.{shapeOf, rows-count}
 use Rattle.map_test.proofs.inner.used_fit.Statement.{statement}

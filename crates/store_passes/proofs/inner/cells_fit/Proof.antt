@@ -7,7 +7,7 @@ use borrow.Author.Needs.{needs}
 use denote.Ref.{now}
 use Rattle.sheet.specs.Cells.{cellFits}
 use Rattle.sheet.specs.Rows.{cell}
-use Rattle.store_form.specs.StoreTest.{every}
+use Rattle.willow.specs.Lists.{every}
 use Rattle.store_passes.proofs.LeftLaws.{used, cell-inside, cells-next, cells-stop, cells-end}
 use Rattle.store_passes.proofs.inner.cells_fit.Statement.{statement}
 use Rattle.store_passes.proofs.inner.cells_fit.Tie as tie

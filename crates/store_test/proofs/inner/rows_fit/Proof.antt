@@ -14,7 +14,7 @@ use Rattle.number.proofs.RecordLaws.{mul-up}
 use Rattle.sheet.specs.Cells.{cellSizeOf, cellFits}
 use Rattle.sheet.specs.Rows.{Row, cell}
 use Rattle.store_form.specs.Apart.{ascends, clearFrom}
-use Rattle.store_form.specs.StoreTest.{every}
+use Rattle.willow.specs.Lists.{every}
 use Rattle.store_rows.specs.EntryRows.{RowsReadable}
 use Rattle.store_passes.proofs.LeftLaws.{used, entries}
 use Rattle.store_test.proofs.PassLaws.{rows-readable, rows-cells, rows-order, rows-prune, rows-sum, rows-heads, rows-unused}
