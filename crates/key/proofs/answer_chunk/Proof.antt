@@ -70,107 +70,107 @@ fewer c = less _ _ _ (fed c .within) (fed c .some)
 written : (c : tie.After-feed Inv-loop μ-loop) → c .feed .result .written ≤ length (c .feed .last .1 .1 .1 .1 .1 .1 .1 .0)
 written c = still-within _ _ _ (c .feed .ensures .taken .inside) (c .feed .kept .1 .1 .1 .1 .1 .1 .1 .0)
 
--- src/main.rt:36:5
+-- src/main.rt:48:5
 loop-holds : tie.Need-loop-holds Inv-loop μ-loop
 loop-holds c = (refl, (c .before .before .before .before .before .before .before .pre .0, c .before .before .before .before .before .before .before .pre .1, omega arith, refl, refl, refl, refl, refl, refl))
 
--- src/main.rt:38:40
+-- src/main.rt:53:13
 sub-feed : tie.Need-sub-feed Inv-loop μ-loop
 sub-feed c = search needs
 
--- src/main.rt:38:40
+-- src/main.rt:53:13
 part-feed-start : tie.Need-part-feed-start Inv-loop μ-loop
 part-feed-start c = search needs
 
--- src/main.rt:38:40
+-- src/main.rt:53:13
 part-feed-end : tie.Need-part-feed-end Inv-loop μ-loop
 part-feed-end c = search needs
 
--- src/main.rt:38:13
+-- src/main.rt:50:13
 feed-requires : tie.Need-feed-requires Inv-loop μ-loop
 feed-requires c κs = (c .before .before .before .before .before .before .before .before .loop .inv .1 .0, c .before .before .before .before .before .before .before .before .loop .inv .1 .1)
 
--- src/main.rt:41:42
+-- src/main.rt:62:42
 sub-write-all : tie.Need-sub-write-all Inv-loop μ-loop
 sub-write-all c = search needs
 
--- src/main.rt:41:42
+-- src/main.rt:62:42
 part-write-all-start : tie.Need-part-write-all-start Inv-loop μ-loop
 part-write-all-start c = search needs
 
--- src/main.rt:41:42
+-- src/main.rt:62:42
 part-write-all-end : tie.Need-part-write-all-end Inv-loop μ-loop
 part-write-all-end c = written (c .before .before .before .before .before .before .before .before .before .before .before .before .before .before)
 
--- src/main.rt:41:13
+-- src/main.rt:62:13
 write-all-requires : tie.Need-write-all-requires Inv-loop μ-loop
 write-all-requires c κs = search needs
 
--- src/main.rt:42:13
+-- src/main.rt:63:13
 same-length : tie.Need-same-length Inv-loop μ-loop
 same-length c = behind (c .before .before .before .before .before .before .before .before .before .before .before .before .before .before .before .before .before) .3
 
--- src/main.rt:42:13
+-- src/main.rt:63:13
 same-length-2 : tie.Need-same-length-2 Inv-loop μ-loop
 same-length-2 c = behind (c .before .before .before .before .before .before .before .before .before .before .before .before .before .before .before .before .before) .4
 
--- src/main.rt:42:13
+-- src/main.rt:63:13
 same-length-3 : tie.Need-same-length-3 Inv-loop μ-loop
 same-length-3 c = behind (c .before .before .before .before .before .before .before .before .before .before .before .before .before .before .before .before .before) .5
 
--- src/main.rt:42:13
+-- src/main.rt:63:13
 same-length-4 : tie.Need-same-length-4 Inv-loop μ-loop
 same-length-4 c = behind (c .before .before .before .before .before .before .before .before .before .before .before .before .before .before .before .before .before) .6
 
--- src/main.rt:42:13
+-- src/main.rt:63:13
 same-length-5 : tie.Need-same-length-5 Inv-loop μ-loop
 same-length-5 c = behind (c .before .before .before .before .before .before .before .before .before .before .before .before .before .before .before .before .before) .7
 
--- src/main.rt:42:13
+-- src/main.rt:63:13
 same-length-6 : tie.Need-same-length-6 Inv-loop μ-loop
 same-length-6 c = behind (c .before .before .before .before .before .before .before .before .before .before .before .before .before .before .before .before .before) .8
 
--- src/main.rt:42:13
+-- src/main.rt:63:13
 returns : tie.Need-returns Inv-loop μ-loop
 returns c = record { fits = behind (c .before .before .before .before .before .before .before .before .before .before .before .before .before .before .before .before .before) .0; whole = λ e. absurd (false≢true e) }
 
--- src/main.rt:36:5
+-- src/main.rt:48:5
 loop-again : tie.Need-loop-again Inv-loop μ-loop
 loop-again c = (fed (c .before .before .before .before .before .before .before .before .before .before .before .before .before .before .before .before .before .before) .holds, behind (c .before .before .before .before .before .before .before .before .before .before .before .before .before .before .before .before .before .before))
 
--- src/main.rt:36:5
+-- src/main.rt:48:5
 loop-less : tie.Need-loop-less Inv-loop μ-loop
 loop-less c = fewer (c .before .before .before .before .before .before .before .before .before .before .before .before .before .before .before .before .before .before)
 
--- src/main.rt:47:9
+-- src/main.rt:68:9
 add-from : tie.Need-add-from Inv-loop μ-loop
 add-from c = record { fits = from-fits _ _ _ (fed (c .before .before .before .before .before .before .before .before .before .before .before .before .before .before .before .before .before .before) .within) (small (c .before .before .before .before .before .before .before .before .before .before .before .before .before .before .before .before .before .before .before .before .before .before .before .before .before .before .before .before .before .before .before .before .before .before .before)) }
 
--- src/main.rt:21:1
+-- src/main.rt:33:1
 same-length-7 : tie.Need-same-length-7 Inv-loop μ-loop
 same-length-7 c = c .before .loop .inv .1 .3
 
--- src/main.rt:21:1
+-- src/main.rt:33:1
 same-length-8 : tie.Need-same-length-8 Inv-loop μ-loop
 same-length-8 c = c .before .loop .inv .1 .4
 
--- src/main.rt:21:1
+-- src/main.rt:33:1
 same-length-9 : tie.Need-same-length-9 Inv-loop μ-loop
 same-length-9 c = c .before .loop .inv .1 .5
 
--- src/main.rt:21:1
+-- src/main.rt:33:1
 same-length-10 : tie.Need-same-length-10 Inv-loop μ-loop
 same-length-10 c = c .before .loop .inv .1 .6
 
--- src/main.rt:21:1
+-- src/main.rt:33:1
 same-length-11 : tie.Need-same-length-11 Inv-loop μ-loop
 same-length-11 c = c .before .loop .inv .1 .7
 
--- src/main.rt:21:1
+-- src/main.rt:33:1
 same-length-12 : tie.Need-same-length-12 Inv-loop μ-loop
 same-length-12 c = c .before .loop .inv .1 .8
 
--- src/main.rt:21:1
+-- src/main.rt:33:1
 returns-2 : tie.Need-returns-2 Inv-loop μ-loop
 returns-2 c = record { fits = c .before .loop .inv .1 .0; whole = λ e. taken-whole _ _ _ _ (c .before .loop .inv .0) (c .loop-test .left) }
 

@@ -15,11 +15,11 @@ use Rattle.key.proofs.answer_chunk.Reads as answer-chunk-reads
 use Rattle.key.proofs.answer_last.Reads as answer-last-reads
 use Rattle.os.proofs.errno.Reads as errno-reads
 
--- src/main.rt:109:19
+-- src/main.rt:113:19
 errno-requires : tie.Need-errno-requires
 errno-requires c κs = search needs
 
--- src/main.rt:108:9
+-- src/main.rt:112:9
 returns : tie.Need-returns
 returns c =
     let start = c .before .before .before .before .before .before .before .before .before in (
@@ -27,75 +27,75 @@ returns c =
       λ e. absurd (not-ended (start .args .got) e (failed (start .fits .got) (c .before .if1 .taken))),
     )
 
--- src/main.rt:114:9
+-- src/main.rt:118:9
 answer-last-requires : tie.Need-answer-last-requires
 answer-last-requires c κs = search needs
 
--- src/main.rt:115:9
+-- src/main.rt:119:9
 same-length : tie.Need-same-length
 same-length c = search needs
 
--- src/main.rt:115:9
+-- src/main.rt:119:9
 same-length-2 : tie.Need-same-length-2
 same-length-2 c = search needs
 
--- src/main.rt:115:9
+-- src/main.rt:119:9
 same-length-3 : tie.Need-same-length-3
 same-length-3 c = search needs
 
--- src/main.rt:115:9
+-- src/main.rt:119:9
 same-length-4 : tie.Need-same-length-4
 same-length-4 c = search needs
 
--- src/main.rt:115:9
+-- src/main.rt:119:9
 same-length-5 : tie.Need-same-length-5
 same-length-5 c = search needs
 
--- src/main.rt:115:9
+-- src/main.rt:119:9
 same-length-6 : tie.Need-same-length-6
 same-length-6 c = search needs
 
--- src/main.rt:115:9
+-- src/main.rt:119:9
 returns-2 : tie.Need-returns-2
 returns-2 c = (record { fits = c .before .before .before .before .before .before .before .before .before .before .before .before .before .before .before .before .before .before .before .before .before .before .before .before .before .before .pre .0; whole = λ e. absurd (false≢true e) }, λ e. refl)
 
--- src/main.rt:120:9
+-- src/main.rt:124:9
 count-requires : tie.Need-count-requires
 count-requires c κs = search needs
 
--- src/main.rt:121:27
+-- src/main.rt:125:27
 slice-aggregate-answer-chunk : tie.Need-slice-aggregate-answer-chunk
 slice-aggregate-answer-chunk c = search needs
 
--- src/main.rt:121:5
+-- src/main.rt:125:5
 answer-chunk-requires : tie.Need-answer-chunk-requires
 answer-chunk-requires c κs = search needs
 
--- src/main.rt:91:1
+-- src/main.rt:95:1
 same-length-7 : tie.Need-same-length-7
 same-length-7 c = search needs
 
--- src/main.rt:91:1
+-- src/main.rt:95:1
 same-length-8 : tie.Need-same-length-8
 same-length-8 c = search needs
 
--- src/main.rt:91:1
+-- src/main.rt:95:1
 same-length-9 : tie.Need-same-length-9
 same-length-9 c = search needs
 
--- src/main.rt:91:1
+-- src/main.rt:95:1
 same-length-10 : tie.Need-same-length-10
 same-length-10 c = search needs
 
--- src/main.rt:91:1
+-- src/main.rt:95:1
 same-length-11 : tie.Need-same-length-11
 same-length-11 c = search needs
 
--- src/main.rt:91:1
+-- src/main.rt:95:1
 same-length-12 : tie.Need-same-length-12
 same-length-12 c = search needs
 
--- src/main.rt:91:1
+-- src/main.rt:95:1
 returns-3 : tie.Need-returns-3
 returns-3 c =
     let start = c .before .before .before .before .before .before .before .before .before .before .before .before .before .before .before .before .before .before .before .before .before .before .before .before .before .before .before .before .before .before in (
