@@ -11,7 +11,7 @@ use Rattle.keyinput.specs.Held.{Fits, heldIn}
 use Rattle.key.specs.declared.Went.{Went}
 
 -- Where h was held before a part of the input: the state fits its line buffer, and where the program goes on, what is held is what
--- the whole of that part leaves of a line, no byte of it being left out. Where a write failed there is no next part.
+-- the whole of that part leaves of a line. Where a write failed it does not go on.
 pub record Leaves (h : Held) (part : List ℕ) (r : Went) (line′ : List ℕ) : Type 0 where
   pub fits : Fits (r .pending) line′
   pub whole : r .more ≡ true → heldIn (r .pending) line′ ≡ heldAfter h part

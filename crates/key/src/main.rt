@@ -2,8 +2,8 @@
 // `keyinput`; this reads and writes. It runs in bounded memory, however long the input is. An interrupted read is made again; a
 // read or write that fails ends the program, and a line that was begun is then not answered.
 //
-// It is proved that every byte which a read brought is taken, and, in `keyinput`, what then stands in the buffer that is written. Nothing
-// is proved of standard output: `io::write_all` promises nothing of it. That the answers come out is seen in a run.
+// It is proved that, unless a write fails, what is held of a line is what all the bytes that were read leave of it, and in `keyinput`
+// what stands in the buffer that is written. Nothing is proved of standard output: `io::write_all` promises nothing of it.
 
 use keyask::inner::MAX_BYTES;
 use keyask::inner::MAX_PACKED;
