@@ -12,6 +12,8 @@ import re
 import sys
 
 LINE = 16384
+# the bytes of the program's buffers, for a read and for the answers that one write takes
+BUFFER = 65536
 FORM = re.compile(rb"([0-9]{1,10}) ([0-9]{1,10}) ([0-9]{1,10}) (?:([SG]) (\(\)|(?:-|(?:[0-9a-f]{2})+)(?:/(?:-|(?:[0-9a-f]{2})+))*)|(M))\Z")
 
 
@@ -92,6 +94,15 @@ def answers(text):
     return b"".join(answer(line) + b"\n" for line in lines)
 
 
+def overflow(before):
+    """Lines behind those before them, all in one read of the program, whose answers are more than it writes at a time; short ones stand
+    last, so that a program which drops the rest of a read prints less."""
+    lines = [b"1024 1024 4096 M"] * 8 + [b"3 %d 9 M" % n for n in range(1, 9)]
+    text = b"".join(line + b"\n" for line in lines)
+    assert len(before) % BUFFER + len(text) <= BUFFER < len(answers(text))
+    return lines
+
+
 def stored():
     """Document 01's four lines first, then an edge a line."""
     at_length = lambda n, front: front + b"00" * ((n - len(front)) // 2)
@@ -125,6 +136,7 @@ def stored():
         b"x" * LINE, b"x" * (LINE + 1), b"y" * (3 * LINE), b"2 1 2 S 01ff",
     ]
     assert any(len(line) == LINE and answer(line) != b"refused 3" for line in lines)
+    lines += overflow(b"\n".join(lines) + b"\n")
     # the last line has no newline
     return b"\n".join(lines + [b"2 2 3 S 01"])
 

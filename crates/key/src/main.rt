@@ -1,6 +1,9 @@
 // The marking key: question lines from standard input, one answer a line to standard output. All that matters is in crate
 // `keyinput`; this reads and writes. It runs in bounded memory, however long the input is. An interrupted read is made again; a
 // read or write that fails ends the program, and a line that was begun is then not answered.
+//
+// It is proved that, unless a write fails, what is held of a line is what all the bytes that were read leave of it, and in `keyinput`
+// what stands in the buffer that is written. Nothing is proved of standard output: `io::write_all` promises nothing of it.
 
 use keyask::inner::MAX_BYTES;
 use keyask::inner::MAX_PACKED;
@@ -10,10 +13,14 @@ use keyinput::inner;
 use keyinput::inner::Pending;
 use libc::STDIN_FILENO;
 use libc::STDOUT_FILENO;
+ghost use mathlib.Core.Bool.{false};
+ghost use mathlib.Core.Path.{_≡_};
 ghost use Prim.Native.Nat.{_+_, _≤_};
+ghost use lib.IntN.{pos};
 ghost use lib.ListN.{length};
 ghost use Rattle.keyform.specs.Answering.{maxAnswer};
-ghost use Rattle.keyinput.specs.Held.{Fits, Scratch};
+ghost use Rattle.keyinput.specs.Held.{Fits, heldIn, Scratch};
+ghost use Rattle.key.specs.Leaves.{broughtIn, Leaves};
 
 // Whether there is more to read, and what is held of the line that has not ended.
 struct Went {
@@ -21,7 +28,8 @@ struct Went {
     pending: Pending,
 }
 
-// The bytes of a chunk: the answers to the lines that it ends are written, as many at a time as there is room for.
+// The bytes of a chunk: the answers to the lines that it ends are written, as many at a time as there is room for. Unless a write
+// fails the whole chunk is taken.
 fn answer_chunk(
     p: Pending,
     line: &mut [u8],
@@ -33,7 +41,7 @@ fn answer_chunk(
     out: &mut [u8],
 ) -> Went
     requires { ⌜ Fits p (now line) × Scratch (now lengths) (now bytes) (now packed) (now next) × (maxAnswer + 1 ≤ length (now out)) ⌝ }
-    ensures { λ r. ⌜ Fits (r .pending) (now (line .exit)) ⌝ }
+    ensures { λ r. ⌜ Leaves (heldIn p (now (line .entry))) (now (chunk .entry)) r (now (line .exit)) ⌝ }
 {
     let mut s = p;
     let mut from: usize = 0;
@@ -83,10 +91,12 @@ fn answer_last(
     }
 }
 
-// One read.
-fn turn(
+// What a read brought: `got` bytes at the front of the chunk, none where the input has ended, or a negative number where it failed.
+fn answer_read(
+    got: isize,
     p: Pending,
     line: &mut [u8],
+    chunk: &[u8],
     lengths: &mut [u8],
     bytes: &mut [u8],
     packed: &mut [u8],
@@ -94,10 +104,9 @@ fn turn(
     out: &mut [u8],
 ) -> Went
     requires { ⌜ Fits p (now line) × Scratch (now lengths) (now bytes) (now packed) (now next) × (maxAnswer + 1 ≤ length (now out)) ⌝ }
-    ensures { λ r. ⌜ Fits (r .pending) (now (line .exit)) ⌝ }
+    ensures { λ r. ⌜ Leaves (heldIn p (now (line .entry))) (broughtIn got (now (chunk .entry))) r (now (line .exit)) ⌝ }
+    ensures { λ r. ⌜ (got ≡ pos 0 → r .more ≡ false) ⌝ }
 {
-    let mut chunk = [0u8; 65536];
-    let got = libc::read(STDIN_FILENO, &mut chunk);
     if got < 0 {
         // A signal came before a byte did: the read is made again.
         return Went {
@@ -112,8 +121,26 @@ fn turn(
             pending: p,
         };
     }
-    let n = io::count(got, &chunk);
+    let n = io::count(got, chunk);
     answer_chunk(p, line, &chunk[..n], lengths, bytes, packed, next, out)
+}
+
+// One read. Nothing is said of what is held beside that it fits: what a read brings is not known from outside.
+fn turn(
+    p: Pending,
+    line: &mut [u8],
+    lengths: &mut [u8],
+    bytes: &mut [u8],
+    packed: &mut [u8],
+    next: &mut [u8],
+    out: &mut [u8],
+) -> Went
+    requires { ⌜ Fits p (now line) × Scratch (now lengths) (now bytes) (now packed) (now next) × (maxAnswer + 1 ≤ length (now out)) ⌝ }
+    ensures { λ r. ⌜ Fits (r .pending) (now (line .exit)) ⌝ }
+{
+    let mut chunk = [0u8; 65536];
+    let got = libc::read(STDIN_FILENO, &mut chunk);
+    answer_read(got, p, line, &chunk, lengths, bytes, packed, next, out)
 }
 
 // The count of turns is there so that the loop is seen to end: no input uses it up.

@@ -1,5 +1,5 @@
 -- What a question on a key line comes to, with the path in a buffer.
-use Prim.Native.Nat.{ℕ, _+_, _*_, _≤_}
+use Prim.Native.Nat.{ℕ, _+_, _*_, _/_, _≤_}
 use mathlib.Core.List.{List}
 use mathlib.Core.Option.{Option, none, some}
 use mathlib.Core.Path.{_≡_}
@@ -31,7 +31,7 @@ abbrev pub maxSizes : ℕ
 maxSizes = 4 * maxLine + 8
 
 abbrev pub maxBytes : ℕ
-maxBytes = 8192
+maxBytes = maxLine / 2
 
 -- A path that stands at the front of a buffer in its packed form, valid under accepted limits.
 pub record Stands (L : Limits) (p : Path) (size count : ℕ) (buffer : List ℕ) : Type 0 where

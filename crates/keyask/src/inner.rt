@@ -1,10 +1,13 @@
 // A key line's question, put to the calls that answer it. The buffers are lent by the caller, so that a program that answers
 // many lines clears none of them.
 
+use keyform::MAX_LINE;
 use keyread::inner::Line;
 use keyread::inner::Slices;
 use willow::Counted;
 use willow::Limits;
+use willow::MAX_MCC;
+use willow::MAX_MPL;
 use willow::Refusal;
 ghost use mathlib.Core.Path.{_≡_};
 ghost use Rattle.willow.specs.declared.Limits as theory;
@@ -15,11 +18,11 @@ ghost use Rattle.keyask.specs.Found.{CountReadable, Finds, foundAs, made
 
 // The room that every line's path needs: for the lengths of its components (`maxSizes`), for their bytes (`maxBytes`), and for a path
 // packed (`maxPacked`).
-pub const MAX_SIZES: usize = 65544;
+pub const MAX_SIZES: usize = 4 * MAX_LINE + 8;
 
-pub const MAX_BYTES: usize = 8192;
+pub const MAX_BYTES: usize = MAX_LINE / 2;
 
-pub const MAX_PACKED: usize = 12296;
+pub const MAX_PACKED: usize = 8 + 8 * MAX_MCC as usize + MAX_MPL as usize;
 
 // What a question comes to: refused, none, or a path that stands packed at the front of a buffer, with its size and its count.
 pub enum Found {

@@ -26,59 +26,59 @@ abbrev μ-loop : tie.MeasureT-loop
 μ-loop line₀ lengths₀ bytes₀ packed₀ next₀ out₀ s₀ turns₀ line lengths bytes packed next out s turns =
     turns
 
--- src/main.rt:114:9
+-- src/main.rt:154:9
 start-requires : tie.Need-start-requires Inv-loop μ-loop
 start-requires c κs = search needs
 
--- src/main.rt:116:5
+-- src/main.rt:156:5
 loop-holds : tie.Need-loop-holds Inv-loop μ-loop
 loop-holds c = search needs
 
--- src/main.rt:117:25
+-- src/main.rt:159:13
 slice-aggregate-turn : tie.Need-slice-aggregate-turn Inv-loop μ-loop
 slice-aggregate-turn c = search needs
 
--- src/main.rt:117:36
+-- src/main.rt:160:13
 slice-aggregate-turn-2 : tie.Need-slice-aggregate-turn-2 Inv-loop μ-loop
 slice-aggregate-turn-2 c = search needs
 
--- src/main.rt:117:50
+-- src/main.rt:161:13
 slice-aggregate-turn-3 : tie.Need-slice-aggregate-turn-3 Inv-loop μ-loop
 slice-aggregate-turn-3 c = search needs
 
--- src/main.rt:117:62
+-- src/main.rt:162:13
 slice-aggregate-turn-4 : tie.Need-slice-aggregate-turn-4 Inv-loop μ-loop
 slice-aggregate-turn-4 c = search needs
 
--- src/main.rt:117:75
+-- src/main.rt:163:13
 slice-aggregate-turn-5 : tie.Need-slice-aggregate-turn-5 Inv-loop μ-loop
 slice-aggregate-turn-5 c = search needs
 
--- src/main.rt:117:86
+-- src/main.rt:164:13
 slice-aggregate-turn-6 : tie.Need-slice-aggregate-turn-6 Inv-loop μ-loop
 slice-aggregate-turn-6 c = search needs
 
--- src/main.rt:117:13
+-- src/main.rt:157:13
 turn-requires : tie.Need-turn-requires Inv-loop μ-loop
 turn-requires c κs = search needs
 
--- src/main.rt:122:9
+-- src/main.rt:170:9
 sub-turns : tie.Need-sub-turns Inv-loop μ-loop
 sub-turns c = search needs
 
--- src/main.rt:116:5
+-- src/main.rt:156:5
 loop-less : tie.Need-loop-less Inv-loop μ-loop
 loop-less c = search needs
 
--- src/main.rt:116:5
+-- src/main.rt:156:5
 loop-again : tie.Need-loop-again Inv-loop μ-loop
 loop-again c = search needs
 
--- src/main.rt:107:1
+-- src/main.rt:147:1
 returns : tie.Need-returns Inv-loop μ-loop
 returns c = search needs
 
--- src/main.rt:107:1
+-- src/main.rt:147:1
 returns-2 : tie.Need-returns-2 Inv-loop μ-loop
 returns-2 c = search needs
 
