@@ -22,6 +22,11 @@ pub data Whose : Type 0 where
   first : Whose
   second : Whose
 
+-- As a number in an answer towards a host: 0 for the path of the first input, 1 for that of the second.
+abbrev pub whoseNumber : Whose → ℕ
+whoseNumber first = 0
+whoseNumber second = 1
+
 pub record Standing : Type 0 where
   pub whose : Whose
   pub count : ℕ

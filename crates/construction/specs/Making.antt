@@ -26,7 +26,7 @@ underLimits L o = unless (limitsRefusal L) o
 abbrev pub slicesOutcome : Limits → List ℕ → List ℕ → Outcome Path
 slicesOutcome L lengths bytes = underLimits L (fromSlices L lengths bytes)
 
--- `new_from_iter`: "the total beside the lengths, 6 where it is not their sum".
+-- `new_from_iter`: the total beside the lengths, 6 where it is not their sum.
 abbrev pub iterOutcome : Limits → ℕ → List ℕ → List ℕ → Outcome Path
 iterOutcome L total lengths bytes =
     underLimits L (cond (eqb total (length bytes)) (fromSlices L lengths bytes) (refused BadLengths))

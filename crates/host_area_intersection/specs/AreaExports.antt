@@ -6,13 +6,8 @@ use Rattle.willow.specs.Areas.{subspaceKind, subspaceValue}
 use Rattle.willow.specs.Ranges.{End, endKind, endValue}
 use Rattle.willow.specs.Refusals.{refusalNumber, Outcome, refused, absent, value}
 use Rattle.convention.specs.Exports.{answeredStatus, noneStatus}
-use Rattle.area_intersection.specs.Standing.{Whose, first, second, Standing}
+use Rattle.area_intersection.specs.Standing.{Standing, whoseNumber}
 use Rattle.host_area_intersection.specs.declared.AreaAnswer.{AreaAnswer}
-
--- "Which input's path (0 the first, 1 the second)."
-abbrev pub whoseNumber : Whose → ℕ
-whoseNumber first = 0
-whoseNumber second = 1
 
 abbrev pub partsAnswer : ℕ → ℕ → AreaSubspace → End ℕ → ℕ → AreaAnswer
 partsAnswer whose count s e start = record {

@@ -9,18 +9,13 @@ use Rattle.willow.specs.Ranges.{End, endKind, endValue}
 use Rattle.willow.specs.Refusals.{refusalNumber, Outcome, refused, absent, value}
 use Rattle.convention.specs.Exports.{answeredStatus, noneStatus}
 use Rattle.area_kinds.specs.AreaKinds.{Parts, areaWith}
-use Rattle.area_intersection.specs.Standing.{Whose, first, second}
+use Rattle.area_intersection.specs.Standing.{whoseNumber}
 use Rattle.area_of_interest.specs.Interests.{StandingInterest}
 use Rattle.host_area_of_interest.specs.declared.InterestAnswer.{InterestAnswer}
 
 -- The parts of an area with its path, a count and a size.
 abbrev pub interestWith : Parts → Path → ℕ → ℕ → AreaOfInterest
 interestWith a p maxCount maxSize = record { area = areaWith a p; maxCount = maxCount; maxSize = maxSize }
-
--- "Which input's path (0 the first, 1 the second)."
-abbrev pub whoseNumber : Whose → ℕ
-whoseNumber first = 0
-whoseNumber second = 1
 
 abbrev pub partsAnswer : ℕ → ℕ → AreaSubspace → End ℕ → ℕ → ℕ → ℕ → InterestAnswer
 partsAnswer whose count s e start maxCount maxSize = record {

@@ -73,7 +73,7 @@ pub extern "C" fn wotskrale_path_range_compare_ends(
     }
 }
 
-// Whether there is a closed range from a start to an end: none where it would include nothing.
+// Whether there is a closed range from a start to an end: no where it would include nothing.
 #[no_mangle]
 pub extern "C" fn wotskrale_path_range_new_closed(
     mcl: u64,

@@ -1,15 +1,19 @@
 -- Questions on kinds, from what their reading answered: what was refused is refused whatever is asked, and what was read is what
 -- is asked about.
+use Prim.Native.Nat.{ℕ}
 use mathlib.Core.Path.{_≡_, refl, sym, _∙_, ap}
 use mathlib.Core.Option.{Option, none, some}
 use mathlib.Core.Bool.{true, false}
+use Rattle.willow.specs.declared.AreaSubspace.{AreaSubspace}
 use Rattle.willow.specs.declared.Limits.{Limits}
 use Rattle.willow.specs.declared.Refusal.{Refusal}
 use Rattle.willow.specs.declared.Refusal.the-variants.{BadLimits}
 use Rattle.willow.specs.Answers.{unless, limitsRefusal}
+use Rattle.willow.specs.Areas.{subspaceFrom}
 use Rattle.willow.specs.Limits.{acceptedLimits}
+use Rattle.willow.specs.Ranges.{End, Range, endFrom}
 use Rattle.willow.specs.Refusals.{Outcome, refused, absent, value}
-use Rattle.kinds.specs.Kinds.{ofKinds, onKinds, both}
+use Rattle.kinds.specs.Kinds.{ofKinds, onKinds, both, fromStart, rangeFrom}
 
 -- A question on an answer. Every question on kinds is one on their reading.
 abbrev pub answered : {A B : Type 0} → Outcome B → (B → Outcome A) → Outcome A
@@ -20,6 +24,35 @@ answered (value b) f = f b
 pub of-kinds-answered : {A B : Type 0} (o : Option B) (f : B → Outcome A) → ofKinds o f ≡ answered (ofKinds o value) f
 of-kinds-answered none f = refl
 of-kinds-answered (some b) f = refl
+
+-- What an answer without limits tells of the kinds: none where they were refused, and otherwise what was read.
+abbrev pub found : {B : Type 0} → Outcome B → Option B
+found (refused r) = none
+found absent = none
+found (value b) = some b
+
+of-kinds-found : {B : Type 0} (o : Option B) → found (ofKinds o value) ≡ o
+of-kinds-found none = refl
+of-kinds-found (some b) = refl
+
+module _ (kind n : ℕ) where
+  pub end-found : (x : Outcome (End ℕ)) → x ≡ ofKinds (endFrom kind n) value → found x ≡ endFrom kind n
+  end-found x e = ap found e ∙ of-kinds-found _
+
+  pub range-found : (a : ℕ) (x : Outcome (Range ℕ)) → x ≡ ofKinds (rangeFrom a kind n) value → found x ≡ rangeFrom a kind n
+  range-found a x e = ap found e ∙ of-kinds-found _
+
+  pub subspace-found : (x : Outcome AreaSubspace) → x ≡ ofKinds (subspaceFrom kind n) value → found x ≡ subspaceFrom kind n
+  subspace-found x e = ap found e ∙ of-kinds-found _
+
+  -- A range is read from its end: no number of a start is refused.
+  pub range-from-end : (a : ℕ) (x : Outcome (End ℕ)) → x ≡ ofKinds (endFrom kind n) value
+      → answered x (λ e. value (record { start = a; end = e })) ≡ ofKinds (rangeFrom a kind n) value
+  range-from-end a x e = ap (λ y. answered y (λ d. value (record { start = a; end = d }))) e ∙ go (endFrom kind n)
+    where
+      go : (o : Option (End ℕ)) → answered (ofKinds o value) (λ d. value (record { start = a; end = d })) ≡ ofKinds (fromStart a o) value
+      go none = refl
+      go (some d) = refl
 
 module _ {A B : Type 0} (L : Limits) (o : Option B) (f : B → Outcome A) where
   -- The limits first.

@@ -6,7 +6,7 @@ use Rattle.willow.specs.declared.Limits.{Limits}
 use Rattle.willow.specs.declared.Refusal.the-variants.{BadKind}
 use Rattle.willow.specs.Answers.{unless, limitsRefusal}
 use Rattle.willow.specs.Ranges.{End, Range, endOf, endFrom}
-use Rattle.willow.specs.Refusals.{Outcome, refused}
+use Rattle.willow.specs.Refusals.{Outcome, refused, value}
 use Rattle.range.specs.NumberRanges.{rangeOf}
 use Rattle.kinds.specs.declared.EndRead.{EndRead}
 use Rattle.kinds.specs.declared.EndRead.the-variants as end
@@ -38,15 +38,15 @@ fromStart a (some e) = some (record { start = a; end = e })
 abbrev pub rangeFrom : ℕ → ℕ → ℕ → Option (Range ℕ)
 rangeFrom a kind n = fromStart a (endFrom kind n)
 
--- What the cases of the code's readings mean.
-abbrev pub endRead : EndRead → Option (End ℕ)
-endRead end.Bad = none
-endRead (end.Is e) = some (endOf e)
+-- What the cases of the code's readings mean: a bad kind is refusal 3.
+abbrev pub endRead : EndRead → Outcome (End ℕ)
+endRead end.Bad = refused BadKind
+endRead (end.Is e) = value (endOf e)
 
-abbrev pub rangeRead : RangeRead → Option (Range ℕ)
-rangeRead range.Bad = none
-rangeRead (range.Is r) = some (rangeOf r)
+abbrev pub rangeRead : RangeRead → Outcome (Range ℕ)
+rangeRead range.Bad = refused BadKind
+rangeRead (range.Is r) = value (rangeOf r)
 
-abbrev pub subspaceRead : SubspaceRead → Option AreaSubspace
-subspaceRead subspace.Bad = none
-subspaceRead (subspace.Is s) = some s
+abbrev pub subspaceRead : SubspaceRead → Outcome AreaSubspace
+subspaceRead subspace.Bad = refused BadKind
+subspaceRead (subspace.Is s) = value s

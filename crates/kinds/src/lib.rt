@@ -7,7 +7,8 @@ use willow::RangeEnd;
 ghost use mathlib.Core.Path.{_≡_};
 ghost use Rattle.willow.specs.Areas.{subspaceFrom, subspaceKind, subspaceValue};
 ghost use Rattle.willow.specs.Ranges.{endFrom, endKind, endOf, endValue};
-ghost use Rattle.kinds.specs.Kinds.{endRead, rangeFrom, rangeRead, subspaceRead};
+ghost use Rattle.willow.specs.Refusals.{value};
+ghost use Rattle.kinds.specs.Kinds.{endRead, ofKinds, rangeFrom, rangeRead, subspaceRead};
 
 // The kinds of an end.
 const OPEN: u64 = 0;
@@ -19,7 +20,7 @@ const ANY: u64 = 0;
 
 const ONE_ID: u64 = 1;
 
-// What a kind with a number stands for, or that the kind is bad.
+// What a kind with a number stands for, or that the kind is bad, for which the caller answers 3.
 pub enum EndRead {
     Bad,
     Is(RangeEnd),
@@ -37,7 +38,7 @@ pub enum SubspaceRead {
 
 // An end of a range of numbers.
 pub fn read_end(kind: u64, n: u64) -> EndRead
-    ensures { λ r. ⌜ endRead r ≡ endFrom kind n ⌝ }
+    ensures { λ r. ⌜ endRead r ≡ ofKinds (endFrom kind n) value ⌝ }
 {
     if kind == OPEN {
         return EndRead::Is(RangeEnd::Open);
@@ -50,7 +51,7 @@ pub fn read_end(kind: u64, n: u64) -> EndRead
 
 // A range of numbers: its start, the kind of its end, and its end.
 pub fn read_range(start: u64, kind: u64, n: u64) -> RangeRead
-    ensures { λ r. ⌜ rangeRead r ≡ rangeFrom start kind n ⌝ }
+    ensures { λ r. ⌜ rangeRead r ≡ ofKinds (rangeFrom start kind n) value ⌝ }
 {
     match read_end(kind, n) {
         EndRead::Bad => RangeRead::Bad,
@@ -60,7 +61,7 @@ pub fn read_range(start: u64, kind: u64, n: u64) -> RangeRead
 
 // The subspaces of an area.
 pub fn read_subspace(kind: u64, n: u64) -> SubspaceRead
-    ensures { λ r. ⌜ subspaceRead r ≡ subspaceFrom kind n ⌝ }
+    ensures { λ r. ⌜ subspaceRead r ≡ ofKinds (subspaceFrom kind n) value ⌝ }
 {
     if kind == ANY {
         return SubspaceRead::Is(AreaSubspace::Any);

@@ -58,7 +58,7 @@ pub fn full() -> PathRange
     new_open(0)
 }
 
-// Whether there is a closed range from a start to an end: none where it would include nothing.
+// Whether there is a closed range from a start to an end: no where it would include nothing.
 pub fn new_closed(limits: Limits, s: &[u8], cs: u64, e: &[u8], ce: u64) -> Asked
     ensures { λ r. ⌜ askedOutcome r ≡ onPaths limits (now (s .entry)) cs (now (e .entry)) ce (λ p q. value (isSome (newClosed comparePaths p q))) ⌝ }
 {

@@ -17,7 +17,7 @@ use Rattle.store_reading.specs.declared.StoreNumbers.{StoreNumbers}
 use Rattle.store_reading.specs.declared.NumbersRead.{NumbersRead}
 use Rattle.store_reading.specs.declared.NumbersRead.the-variants as read
 
--- "MCL, MCC, MPL, N, held count n, namespace, held bytes, let-go bytes", of a store of these sizes in this state.
+-- "MCL, MCC, MPL, N, held count n (in both sheets at most N), namespace, held bytes, let-go bytes", of a store of these sizes in this state.
 abbrev pub numbersOf : Sizes → State → StoreNumbers
 numbersOf z t = record {
   limits = z .limits;

@@ -3,6 +3,7 @@ use mathlib.Core.Path.{refl, sym, _∙_, ap}
 use mathlib.Core.Option.{none, some}
 use Rattle.willow.specs.Refusals.{value}
 use Rattle.kinds.specs.Kinds.{rangeRead, subspaceRead}
+use Rattle.kinds.proofs.KindLaws.{range-found, subspace-found}
 use Rattle.area_kinds.specs.AreaKinds.{parts}
 use Rattle.area_kinds.proofs.AreaKindLaws.{area-read}
 use borrow.Author.Needs.{needs}
@@ -31,13 +32,13 @@ new-requires : tie.Need-new-requires
 new-requires c κs = search needs
 
 returns : tie.Need-returns
-returns c = area-read _ _ _ _ _ _ none _ (sym (ap subspaceRead (c .enum-told .given .1)) ∙ c .before .before .read-subspace .ensures) refl
+returns c = area-read _ _ _ _ _ _ none _ (subspace-found _ _ _ (sym (ap subspaceRead (c .enum-told .given .1)) ∙ c .before .before .read-subspace .ensures)) refl
 
 returns-2 : tie.Need-returns-2
-returns-2 c = area-read _ _ _ _ _ _ (some _) none (sym (ap subspaceRead (c .before .before .before .before .subspace .given .1)) ∙ c .before .before .before .before .before .before .read-subspace .ensures) (sym (ap rangeRead (c .enum-told2 .given .1)) ∙ c .before .before .read-range .ensures)
+returns-2 c = area-read _ _ _ _ _ _ (some _) none (subspace-found _ _ _ (sym (ap subspaceRead (c .before .before .before .before .subspace .given .1)) ∙ c .before .before .before .before .before .before .read-subspace .ensures)) (range-found _ _ _ _ (sym (ap rangeRead (c .enum-told2 .given .1)) ∙ c .before .before .read-range .ensures))
 
 returns-3 : tie.Need-returns-3
-returns-3 c = ap (λ a. value (parts a)) (c .new .ensures) ∙ area-read _ _ _ _ _ _ (some _) (some _) (sym (ap subspaceRead (c .before .before .before .before .before .before .subspace .given .1)) ∙ c .before .before .before .before .before .before .before .before .read-subspace .ensures) (sym (ap rangeRead (c .before .before .times .given .1)) ∙ c .before .before .before .before .read-range .ensures)
+returns-3 c = ap (λ a. value (parts a)) (c .new .ensures) ∙ area-read _ _ _ _ _ _ (some _) (some _) (subspace-found _ _ _ (sym (ap subspaceRead (c .before .before .before .before .before .before .subspace .given .1)) ∙ c .before .before .before .before .before .before .before .before .read-subspace .ensures)) (range-found _ _ _ _ (sym (ap rangeRead (c .before .before .times .given .1)) ∙ c .before .before .before .before .read-range .ensures))
 
 pub read-kinds-spec : {M : Type 1} → statement M
 read-kinds-spec =
