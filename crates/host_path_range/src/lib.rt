@@ -16,6 +16,7 @@ use willow::Limits;
 ghost use mathlib.Core.List.{[], _∷_, _++_};
 ghost use mathlib.Core.Path.{_≡_};
 ghost use Rattle.willow.specs.Answers.{onPaths, pathIn};
+ghost use Rattle.willow.specs.Lists.{isSome};
 ghost use Rattle.willow.specs.Orders.{orderNumber};
 ghost use Rattle.willow.specs.Paths.{comparePaths};
 ghost use Rattle.willow.specs.Ranges.{compareEnds, compareRanges, endAbove, includes, includesRange, newClosed};
@@ -24,7 +25,6 @@ ghost use Rattle.convention.specs.Exports.{given, limitsOf, yesNumber};
 ghost use Rattle.kinds.specs.Kinds.{both, onKinds};
 ghost use Rattle.path_bounds.specs.LentPaths.{onLent};
 ghost use Rattle.path_bounds.specs.LentRanges.{endPaths, pathEndOf, pathRangeOf, rangePaths};
-ghost use Rattle.path_range.specs.PathRanges.{isSome};
 ghost use Rattle.path_kinds.specs.PathKinds.{pathEndFrom, pathRangeFrom};
 
 // Whether an end is above a path.

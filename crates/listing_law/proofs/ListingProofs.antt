@@ -9,10 +9,10 @@ use mathlib.Core.Bool.{Bool, true, false, cond, false≢true}
 use native.Mathlib.Omega.{arith}
 use lib.ListN.{length, getD}
 use Rattle.willow.specs.Areas.{Area, Triplet, InArea, IsAreaIntersection, areaIntersection}
-use Rattle.willow.specs.Lists.{In, Ascending}
+use Rattle.willow.specs.Lists.{In, Ascending, isSome}
 use Rattle.willow.proofs.AreaLaws.{areas-intersected}
 use Rattle.map_form.specs.Maps.{Rule}
-use Rattle.listing_law.specs.Listings.{isSome, meets, positionsFrom, positions, ListingTheorem}
+use Rattle.listing_law.specs.Listings.{meets, positionsFrom, positions, ListingTheorem}
 
 -- TWO AREAS MEET exactly if a triplet is in both.
 abbrev Common : Area → Area → Type 0

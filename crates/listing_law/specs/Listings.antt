@@ -4,13 +4,13 @@ use Prim.Native.Nat.{ℕ, suc, _*_, _<_}
 use mathlib.Core.Logic.{_↔_}
 use mathlib.Core.List.{List, [], _∷_}
 use mathlib.Core.Option.{Option, none, some}
-use mathlib.Core.Bool.{Bool, true, false, cond}
+use mathlib.Core.Bool.{Bool, cond}
 use lib.Dec.{leb}
 use lib.ListN.{length, getD}
 use Rattle.willow.specs.declared.Refusal.the-variants.{OutTooSmall}
 use Rattle.willow.specs.Answers.{unless}
 use Rattle.willow.specs.Areas.{Area, Triplet, InArea, areaIntersection}
-use Rattle.willow.specs.Lists.{In, Ascending}
+use Rattle.willow.specs.Lists.{In, Ascending, isSome}
 use Rattle.willow.specs.Numbers.{le}
 use Rattle.willow.specs.Refusals.{Outcome, refused, absent, value}
 use Rattle.number.specs.Records.{laid}
@@ -19,10 +19,6 @@ use Rattle.map_form.specs.Maps.{Rule, rulesIn}
 use Rattle.map_law.specs.Insertions.{AreaArgument, partsIn, areaRefusal, areaPassed}
 
 -- Computed: a rule's area and another have an intersection.
-abbrev pub isSome : {A : Type 0} → Option A → Bool
-isSome none = false
-isSome (some x) = true
-
 abbrev pub meets : Area → Rule → Bool
 meets a r = isSome (areaIntersection (r .area) a)
 

@@ -1,33 +1,21 @@
 -- The test of a map, taken apart and put together again: what each of its tests says, of sizes z and a count n.
 use Prim.Native.Nat.{ℕ, _+_, _*_, _-_, _≤_}
-use mathlib.Core.Path.{_≡_, refl}
+use mathlib.Core.Path.{_≡_}
 use mathlib.Core.Logic.{_↔_}
-use mathlib.Core.List.{List, [], _∷_}
-use mathlib.Core.Bool.{Bool, true}
+use mathlib.Core.List.{List}
+use mathlib.Core.Bool.{true}
 use lib.ListN.{length, take, drop}
 use borrow.Author.Tests.{leb-true, le-leb}
 use Rattle.willow.specs.declared.Limits.{Limits}
 use Rattle.willow.specs.Limits.{Accepted, maxCapacity}
-use Rattle.willow.specs.Lists.{All, every}
-use Rattle.willow.proofs.Bools.{both-true, true-both}
+use Rattle.willow.specs.Lists.{All}
+use Rattle.willow.proofs.Bools.{both-true}
 use Rattle.willow.proofs.LimitLaws.{limit-laws}
+use Rattle.willow.proofs.ListLaws.{every-means}
 use Rattle.number.specs.Overwriting.{allZero}
 use Rattle.sheet.specs.Rows.{Shape, Room, cellsFrom, sheetLength, rowsOf}
 use Rattle.map_form.specs.Maps.{MapSizes, mapNumbers, mapShape, sizesIn, countIn}
 use Rattle.map_form.specs.MapTest.{rowFits, rowsFit, sizesFit, isMap}
-
--- Every element passes exactly if each does.
-module _ {A : Type 0} (f : A → Bool) where
-  every-all : (xs : List A) → every f xs ≡ true → All (λ x. f x ≡ true) xs
-  every-all [] h = tt
-  every-all (x ∷ xs) h = let k = both-true (f x) (every f xs) h in (k .0, every-all xs (k .1))
-
-  all-every : (xs : List A) → All (λ x. f x ≡ true) xs → every f xs ≡ true
-  all-every [] h = refl
-  all-every (x ∷ xs) h = true-both (f x) (every f xs) (h .0) (all-every xs (h .1))
-
-  pub every-means : (xs : List A) → (every f xs ≡ true) ↔ All (λ x. f x ≡ true) xs
-  every-means xs = (every-all xs, all-every xs)
 
 -- WHAT PASSED: sizes, rows, and all of it.
 pub record SizesPassed (z : MapSizes) (n : ℕ) : Type 0 where

@@ -3,11 +3,12 @@ use mathlib.Core.Path.{_≡_, refl, _∙_, ap}
 use mathlib.Core.Bool.{Bool, true, false}
 use mathlib.Core.Option.{Option, none, some}
 use Rattle.willow.specs.Areas.{Area, areaIntersection}
+use Rattle.willow.specs.Lists.{isSome}
 use Rattle.willow.specs.Refusals.{Outcome, refused, absent, value}
 use Rattle.area_intersection.specs.declared.AreaMet.{AreaMet}
 use Rattle.area_intersection.specs.Standing.{standing, standingFor, metOutcome}
 use Rattle.map_form.specs.Maps.{Rule}
-use Rattle.listing_law.specs.Listings.{isSome, meets}
+use Rattle.listing_law.specs.Listings.{meets}
 
 -- WHETHER AREAS MEET, from what their intersection answers: yes unless there is none.
 abbrev pub isAnswered : {A : Type 0} → Outcome A → Bool

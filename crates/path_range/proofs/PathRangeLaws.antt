@@ -2,10 +2,10 @@
 use mathlib.Core.Path.{_≡_, refl, _∙_, ap}
 use mathlib.Core.Bool.{Bool, true, false, cond}
 use mathlib.Core.Option.{none, some}
+use Rattle.willow.specs.Lists.{isSome}
 use Rattle.willow.specs.declared.Order.{Order}
 use Rattle.willow.specs.Orders.{isLess}
 use Rattle.willow.specs.Ranges.{closed, Range, newClosed}
-use Rattle.path_range.specs.PathRanges.{isSome}
 
 pub closed-by : {A : Type 0} (compare : A → A → Order) (a e : A) (o : Order) → o ≡ compare a e → isLess o ≡ isSome (newClosed compare a e)
 unfolding newClosed

@@ -3,17 +3,11 @@
 use Prim.Native.Nat.{ℕ}
 use mathlib.Core.Bool.{Bool, true, false}
 use mathlib.Core.List.{[]}
-use mathlib.Core.Option.{Option, none, some}
 use Rattle.willow.specs.Paths.{Path}
 use Rattle.willow.specs.Ranges.{endless, Range}
 use Rattle.willow.specs.Refusals.{Outcome, absent, value}
 use Rattle.path_bounds.specs.declared.PathEnd.{PathEnd}
 use Rattle.path_bounds.specs.declared.PathEnd.the-variants.{Closed, Open}
-
--- `new_closed`: whether there is such a range. What it would hold is what was lent.
-abbrev pub isSome : {A : Type 0} → Option A → Bool
-isSome none = false
-isSome (some x) = true
 
 abbrev pub isOpen : PathEnd → Bool
 isOpen (Closed k) = false

@@ -27,12 +27,13 @@ ghost use mathlib.Core.List.{[], _∷_, _++_, List};
 ghost use mathlib.Core.Path.{_≡_};
 ghost use Prim.Native.Nat.{ℕ};
 ghost use Rattle.willow.specs.Answers.{askedOutcome, comparedOutcome, countedOutcome, onPaths, pathIn};
+ghost use Rattle.willow.specs.Lists.{isSome};
 ghost use Rattle.willow.specs.Paths.{comparePaths};
 ghost use Rattle.willow.specs.Ranges.{compareRanges, endless, includes, includesRange, newClosed};
 ghost use Rattle.willow.specs.Refusals.{value};
 ghost use Rattle.path_bounds.specs.LentPaths.{onLent};
 ghost use Rattle.path_bounds.specs.LentRanges.{pathRangeOf, rangePaths};
-ghost use Rattle.path_range.specs.PathRanges.{endCount, fullPaths, isOpen, isSome};
+ghost use Rattle.path_range.specs.PathRanges.{endCount, fullPaths, isOpen};
 
 // The range from a start to an end.
 pub fn new(start: u64, end: PathEnd) -> PathRange
@@ -58,7 +59,7 @@ pub fn full() -> PathRange
     new_open(0)
 }
 
-// Whether there is a closed range from a start to an end: no where it would include nothing.
+// Whether there is a closed range from a start to an end: no where it would include nothing. What it would hold is what was lent.
 pub fn new_closed(limits: Limits, s: &[u8], cs: u64, e: &[u8], ce: u64) -> Asked
     ensures { λ r. ⌜ askedOutcome r ≡ onPaths limits (now (s .entry)) cs (now (e .entry)) ce (λ p q. value (isSome (newClosed comparePaths p q))) ⌝ }
 {

@@ -2,7 +2,7 @@
 use Prim.Native.Nat.{ℕ, _+_, _*_, _-_, _≤_}
 use mathlib.Core.Path.{_≡_, refl, sym, _∙_}
 use mathlib.Core.Logic.{_↔_}
-use mathlib.Core.List.{List, [], _∷_, map}
+use mathlib.Core.List.{List, [], map}
 use mathlib.Core.Bool.{Bool, true, _&&_}
 use lib.Dec.{eqb, leb}
 use lib.ListN.{length, take, drop}
@@ -10,28 +10,17 @@ use borrow.Author.Tests.{leb-true, le-leb, eqb-true, eq-eqb}
 use Rattle.willow.specs.declared.Limits.{Limits}
 use Rattle.willow.specs.Entries.{Entry}
 use Rattle.willow.specs.Limits.{Accepted, maxCapacity, maxWord}
-use Rattle.willow.specs.Lists.{All, every}
+use Rattle.willow.specs.Lists.{All}
 use Rattle.willow.specs.Store.{Sizes, payloads}
-use Rattle.willow.proofs.Bools.{both-true, true-both}
+use Rattle.willow.proofs.Bools.{both-true}
 use Rattle.willow.proofs.LimitLaws.{limit-laws}
+use Rattle.willow.proofs.ListLaws.{every-means}
 use Rattle.number.specs.Overwriting.{allZero}
 use Rattle.sheet.specs.Cells.{cellFits}
 use Rattle.sheet.specs.Rows.{Shape, cell, Room, rowsOf, cellsFrom, sheetLength}
 use Rattle.store_form.specs.Apart.{ascends, clearFrom}
 use Rattle.store_form.specs.Stores.{storeNumbers, storeShape, sizesIn, countIn, heldIn, letGoIn, entryIn}
 use Rattle.store_form.specs.StoreTest.{entriesFit, rowsFit, sizesFit, isStore}
-
--- Every element passes.
-pub every-all : {A : Type 0} (f : A → Bool) (xs : List A) → (every f xs ≡ true) ↔ All (λ x. f x ≡ true) xs
-every-all {A} f xs = (to xs, from xs)
-  where
-    to : (xs : List A) → every f xs ≡ true → All (λ x. f x ≡ true) xs
-    to [] h = tt
-    to (x ∷ xs) h = let b = both-true (f x) (every f xs) h in (b .0, to xs (b .1))
-
-    from : (xs : List A) → All (λ x. f x ≡ true) xs → every f xs ≡ true
-    from [] h = refl
-    from (x ∷ xs) h = true-both (f x) (every f xs) (h .0) (from xs (h .1))
 
 -- THE ENTRIES.
 pub record EntriesTested (held : ℕ) (es : List Entry) : Type 0 where
@@ -64,13 +53,13 @@ rows-tested L z n held s = (
       let b = both-true _ _ (a .1) in
       let c = both-true _ _ (b .1) in
       record {
-        cells-fit = every-all (λ r. cellFits L (cell r)) (take n (rowsOf z s)) .0 (a .0);
+        cells-fit = every-means (λ r. cellFits L (cell r)) (take n (rowsOf z s)) .0 (a .0);
         entries = entries-tested held (map (entryIn 0) (take n (rowsOf z s))) .0 (b .0);
         heads-zero = c .0;
         cells-zero = c .1;
       },
   λ t. rw (
-    every-all (λ r. cellFits L (cell r)) (take n (rowsOf z s)) .1 (t .cells-fit),
+    every-means (λ r. cellFits L (cell r)) (take n (rowsOf z s)) .1 (t .cells-fit),
     entries-tested held (map (entryIn 0) (take n (rowsOf z s))) .1 (t .entries),
     t .heads-zero,
   ) (t .cells-zero),

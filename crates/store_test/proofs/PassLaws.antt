@@ -22,7 +22,8 @@ use Rattle.store_form.specs.Apart.{ascends, clearFrom}
 use Rattle.store_form.specs.Stores.{storeShape, sizesIn, countIn, heldIn, letGoIn}
 use Rattle.willow.specs.Lists.{every}
 use Rattle.store_form.specs.StoreTest.{entriesFit, rowsFit, sizesFit, isStore}
-use Rattle.store_form.proofs.TestedLaws.{every-all, SizesTested, passes, is-store-passes}
+use Rattle.willow.proofs.ListLaws.{every-means}
+use Rattle.store_form.proofs.TestedLaws.{SizesTested, passes, is-store-passes}
 use Rattle.store_rows.specs.EntryRows.{sizesOf, RowsReadable}
 use Rattle.store_passes.proofs.LeftLaws.{used, entries}
 
@@ -74,7 +75,7 @@ rows-readable L N n s a c b r k h = record {
   bytes = b;
   room = r;
   count = k;
-  cells = every-all (λ x. cellFits L (cell x)) (used L N n s) .0 h;
+  cells = every-means (λ x. cellFits L (cell x)) (used L N n s) .0 h;
 }
 
 module _ (L : Limits) (N n held : ℕ) (s : List ℕ) where

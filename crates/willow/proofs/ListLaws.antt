@@ -7,8 +7,8 @@ use mathlib.Core.List.{List, [], _∷_, _++_, map}
 use mathlib.Core.Bool.{Bool, true, false, not, cond, false≢true}
 use native.Mathlib.Omega.{arith}
 use lib.ListN.{length, take, drop}
-use Rattle.willow.specs.Lists.{In, All, Ascending, Sum, Number, any, filter}
-use Rattle.willow.proofs.Bools.{either-true, neither-true, true-left, true-right, decided-false}
+use Rattle.willow.specs.Lists.{In, All, Ascending, Sum, Number, any, every, filter}
+use Rattle.willow.proofs.Bools.{both-true, true-both, either-true, neither-true, true-left, true-right, decided-false}
 
 -- THROUGHOUT.
 module _ {A : Type 0} (P : A → Type 0) where
@@ -79,6 +79,18 @@ module _ {A : Type 0} where
     λ h. let r = any-found test l h in (r .0, r .1, d (r .0) .0 (r .2)),
     λ r. found-any test l (r .0) (r .1) (d (r .0) .1 (r .2)),
   )
+
+  -- EVERY ELEMENT PASSES.
+  pub every-means : (test : A → Bool) (l : List A) → (every test l ≡ true) ↔ All (λ x. test x ≡ true) l
+  every-means test l = (to l, from l)
+    where
+      to : (l : List A) → every test l ≡ true → All (λ x. test x ≡ true) l
+      to [] h = tt
+      to (x ∷ xs) h = let b = both-true (test x) (every test xs) h in (b .0, to xs (b .1))
+
+      from : (l : List A) → All (λ x. test x ≡ true) l → every test l ≡ true
+      from [] h = refl
+      from (x ∷ xs) h = true-both (test x) (every test xs) (h .0) (from xs (h .1))
 
   -- THE ELEMENTS THAT PASS.
   pub filter-in : (test : A → Bool) (l : List A) (x : A) → In x (filter test l) → In x l × (test x ≡ true)

@@ -1,8 +1,10 @@
--- Lists: what it is to stand in one, to have a property throughout, to ascend, and to be summed in part.
+-- Lists: what it is to stand in one, to have a property throughout, to ascend, and to be summed in part; and tests of lists and of
+-- values that may be there.
 use Prim.Native.Nat.{ℕ, _+_}
 use mathlib.Core.Path.{_≡_}
 use mathlib.Core.Logic.{_⊎_}
 use mathlib.Core.List.{List, [], _∷_}
+use mathlib.Core.Option.{Option, none, some}
 use mathlib.Core.Bool.{Bool, true, false, _&&_, _||_, cond}
 
 -- x is in the list.
@@ -41,6 +43,11 @@ any test (x ∷ xs) = test x || any test xs
 abbrev pub every : {A : Type 0} → (A → Bool) → List A → Bool
 every test [] = true
 every test (x ∷ xs) = test x && every test xs
+
+-- Computed: there is a value.
+abbrev pub isSome : {A : Type 0} → Option A → Bool
+isSome none = false
+isSome (some x) = true
 
 -- Computed: the elements that pass the test, in their order.
 abbrev pub filter : {A : Type 0} → (A → Bool) → List A → List A

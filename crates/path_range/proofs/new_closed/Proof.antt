@@ -4,12 +4,12 @@ use denote.Ref.{now}
 use Rattle.willow.specs.declared.Order.{Order}
 use Rattle.willow.specs.declared.Order.the-variants.{Less, Equal, Greater}
 use Rattle.willow.specs.Answers.{pathIn}
+use Rattle.willow.specs.Lists.{isSome}
 use Rattle.willow.specs.Orders.{isLess}
 use Rattle.willow.specs.Paths.{comparePaths}
 use Rattle.willow.specs.Ranges.{newClosed}
 use Rattle.willow.specs.Refusals.{value}
 use Rattle.lent_path.proofs.TestLaws.{two-passed, two-refused, two-asked, readable-two}
-use Rattle.path_range.specs.PathRanges.{isSome}
 use Rattle.path_range.proofs.PathRangeLaws.{closed-by}
 use borrow.Author.Needs.{needs}
 use Rattle.path_range.proofs.new_closed.Statement.{statement}
