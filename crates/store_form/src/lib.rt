@@ -1,6 +1,8 @@
 // The store's sheet: its layout, and what its test means, are in specs/. The code that reads and writes it stands in the crates that
 // use this one, and finds every number by these names.
 
+use willow::MAX_MCC;
+
 // The numbers that stand before the heads, in bytes, and the bytes of a head.
 pub const STORE_FRONT: usize = 64;
 
@@ -33,4 +35,4 @@ pub const PAYLOAD_LENGTH_AT: usize = 16;
 pub const DIGEST_AT: usize = 24;
 
 // How many held prefixes a path can have, itself among them: one more than a path's components.
-pub const MAX_DEPTH: usize = 1025;
+pub const MAX_DEPTH: usize = MAX_MCC as usize + 1;
