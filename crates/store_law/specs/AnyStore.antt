@@ -46,7 +46,7 @@ pub record OfferTo (s : List ℕ) (z : Sizes) (t : State) (o : Offer) : Type 0 w
   pub by-table : ByTable z t o (answerIn s (offer o))
   -- "A refusal leaves all lent memory byte for byte as found"
   pub refused-leaves : isRefused (answerIn s (offer o)) ≡ true → leavesIn s (offer o) ≡ s
-  -- any other answer files the offer
+  -- any other answer leaves what follows from it
   pub unrefused-leaves : isRefused (answerIn s (offer o)) ≡ false → Filed s z t o (answerIn s (offer o)) (leavesIn s (offer o))
 
 -- For every buffer that begins with the sheet of a store, and every offer with any arguments. The premises are met by limits, capacity
