@@ -240,8 +240,8 @@ fn main() {
     if size == Size::Tiny {
         guard::leave_to_valgrind();
     }
-    // Panics of the Rust are caught and counted, and need not be printed.
-    std::panic::set_hook(Box::new(|_| {}));
+    // Panics that the Rust answers with are caught and counted, and need not be printed.
+    theirs::print_other_panics();
     let mut tally = Tally::default();
     let t = &mut tally;
     for (part, name) in (0..).zip(parts) {

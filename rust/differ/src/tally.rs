@@ -82,7 +82,8 @@ pub struct Input {
 impl Input {
     /// An input of so many components and bytes, in words.
     pub fn new(limits: Limits, weight: usize, text: String) -> Self {
-        let sum = limits.mcl + limits.mcc + limits.mpl;
+        let sum = limits.mcl.saturating_add(limits.mcc);
+        let sum = sum.saturating_add(limits.mpl);
         let text = format!("{} {} {}: {text}", limits.mcl, limits.mcc, limits.mpl);
         Input {
             weight,

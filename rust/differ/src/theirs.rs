@@ -1,6 +1,7 @@
 //! The Rust side. Its limits are const generics: here they stand behind two traits, so that the rest is compiled once.
 
 use std::any::Any;
+use std::cell::Cell;
 use std::cmp::Ordering;
 use std::panic::{catch_unwind, AssertUnwindSafe};
 
@@ -90,8 +91,27 @@ pub trait TheirPath: Any {
 /// The limits of a set.
 pub struct At<const MCL: usize, const MCC: usize, const MPL: usize>;
 
+thread_local! {
+    /// Whether a call is under way that the Rust may answer with a panic.
+    static MAY_PANIC: Cell<bool> = const { Cell::new(false) };
+}
+
+/// A call whose panic is an answer: nothing, and nothing is printed.
 fn quiet<T>(call: impl FnOnce() -> T) -> Option<T> {
-    catch_unwind(AssertUnwindSafe(call)).ok()
+    MAY_PANIC.set(true);
+    let answer = catch_unwind(AssertUnwindSafe(call));
+    MAY_PANIC.set(false);
+    answer.ok()
+}
+
+/// From now on a panic is printed unless it is an answer.
+pub fn print_other_panics() {
+    let print = std::panic::take_hook();
+    std::panic::set_hook(Box::new(move |panic| {
+        if !MAY_PANIC.get() {
+            print(panic);
+        }
+    }));
 }
 
 /// Components for the Rust, where none is over MCL.
