@@ -2,6 +2,7 @@
 
 use wotskrale::{construction, least, reading, relation, writing, Limits, PathRef, Refusal};
 
+use crate::guard::Guarded;
 use crate::model::{pack, read, total};
 use crate::sides::ours;
 use crate::tally::{Input, Tally};
@@ -10,14 +11,16 @@ use crate::theirs::Made;
 /// A sound path to stand beside a damaged one.
 const EMPTY: [u8; 8] = [0; 8];
 
-/// What every call says to a lent path that may be damaged.
+/// What every call says to a lent path that may be damaged. It is lent in a buffer of its own, so that a read or a write behind
+/// it is seen, and it has to stay as it is.
 pub fn lent(limits: Limits, buffer: &[u8], count: u64, t: &mut Tally) {
+    let guarded = Guarded::of(buffer);
     let expected = match read(limits, buffer, count) {
         _ if !limits.within_bounds() => Err(Refusal::BadLimits),
         None => Err(Refusal::BadPath),
         Some(parts) => Ok(parts),
     };
-    let path = PathRef::new(buffer, count);
+    let path = PathRef::new(guarded.lent(), count);
     let input = |call: &str, said: String| {
         let text = format!("{call} of {buffer:02x?} with count {count}: {said}");
         Input::new(limits, buffer.len(), text)
@@ -44,6 +47,9 @@ pub fn lent(limits: Limits, buffer: &[u8], count: u64, t: &mut Tally) {
             });
         }
     }
+    t.same("damaged: lent stays", guarded.holds(buffer), || {
+        input("some call", format!("left {:02x?}", guarded.lent()))
+    });
 }
 
 /// Every call refuses with this number and leaves its buffer alone, whatever else is wrong.
@@ -54,8 +60,9 @@ fn refused(
     t: &mut Tally,
     input: &dyn Fn(&str, String) -> Input,
 ) {
-    let sound = PathRef::new(&EMPTY, 0);
-    let over = [0u8; 2000];
+    let empty = Guarded::of(&EMPTY);
+    let sound = PathRef::new(empty.lent(), 0);
+    let (over, three) = (Guarded::of(&[0; 2000]), Guarded::of(&[1, 2, 3]));
     let read = [
         (
             "component_count",
@@ -144,10 +151,10 @@ fn refused(
             writing::write_longest_common_prefix(limits, sound, path, out).map(Some)
         }),
         ("append", &|out| {
-            construction::append(limits, path, &over, out).map(Some)
+            construction::append(limits, path, over.lent(), out).map(Some)
         }),
         ("append_slice", &|out| {
-            construction::append_slice(limits, path, &[1, 2, 3], &over, out).map(Some)
+            construction::append_slice(limits, path, three.lent(), over.lent(), out).map(Some)
         }),
         ("successor", &|out| least::successor(limits, path, out)),
         ("greater_but_not_prefixed", &|out| {
@@ -162,6 +169,10 @@ fn refused(
         let same = made == Made::Refused(refusal.number());
         t.same("damaged: write", same, || input(call, format!("{made:?}")));
     }
+    let same = empty.holds(&EMPTY) && over.holds(&[0; 2000]) && three.holds(&[1, 2, 3]);
+    t.same("damaged: lent stays", same, || {
+        input("some call", "changed what stands beside".to_string())
+    });
 }
 
 /// A packed path with its bytes changed one at a time, cut, extended, and with other counts. `step` skips bytes of long ones.
@@ -226,25 +237,35 @@ pub fn lengths(limits: Limits, lengths: &[u8], bytes: &[u8], t: &mut Tally) {
         return;
     }
     let number = if limits.within_bounds() { 6 } else { 1 };
-    let sound = PathRef::new(&EMPTY, 0);
+    let all = [&EMPTY, lengths, bytes];
+    let guarded = all.map(Guarded::of);
+    let [empty, numbers, parts] = guarded.each_ref().map(Guarded::lent);
+    let sound = PathRef::new(empty, 0);
     let total = bytes.len() as u64;
     type Write<'a> = &'a dyn Fn(&mut [u8]) -> Result<Option<usize>, Refusal>;
     let calls: [(&str, Write); 3] = [
         ("from_slices", &|out| {
-            construction::from_slices(limits, lengths, bytes, out).map(Some)
+            construction::from_slices(limits, numbers, parts, out).map(Some)
         }),
         ("new_from_iter", &|out| {
-            construction::new_from_iter(limits, total, lengths, bytes, out).map(Some)
+            construction::new_from_iter(limits, total, numbers, parts, out).map(Some)
         }),
         ("append_slice", &|out| {
-            construction::append_slice(limits, sound, lengths, bytes, out).map(Some)
+            construction::append_slice(limits, sound, numbers, parts, out).map(Some)
         }),
     ];
+    let input = |said: String| {
+        let text = format!("lengths {lengths:02x?}, bytes {bytes:02x?}: {said}");
+        Input::new(limits, lengths.len() + bytes.len(), text)
+    };
     for (call, run) in calls {
         let made = ours(200, run);
         t.same("damaged: lengths", made == Made::Refused(number), || {
-            let text = format!("{call} of lengths {lengths:02x?}, bytes {bytes:02x?}: {made:?}");
-            Input::new(limits, lengths.len() + bytes.len(), text)
+            input(format!("{call}: {made:?}"))
         });
     }
+    let same = guarded.iter().zip(all).all(|(g, lent)| g.holds(lent));
+    t.same("damaged: lent stays", same, || {
+        input("changed by some call".to_string())
+    });
 }

@@ -77,7 +77,8 @@ fn paths(size: Size, numbers: &mut Random, t: &mut Tally) {
         2 0 0, 2 0 1, 2 0 2, 2 0 3, 2 1 0, 2 1 1, 2 1 2, 2 1 3, 2 2 0, 2 2 1, 2 2 2, 2 2 3, 2 3 0, 2 3 1, 2 3 2, 2 3 3,
         3 0 0, 3 0 1, 3 0 2, 3 0 3, 3 1 0, 3 1 1, 3 1 2, 3 1 3, 3 2 0, 3 2 1, 3 2 2, 3 2 3, 3 3 0, 3 3 1, 3 3 2, 3 3 3
     ];
-    for set in tiny.into_iter().take(size.pick(16, 64, 64)) {
+    // No step that shares a factor with 4, so that each limit takes each of its values.
+    for set in tiny.into_iter().step_by(size.pick(5, 1, 1)) {
         path_runs::exhaustive(set, size == Size::Whole, t);
         progress("paths", set.limits(), t);
     }
