@@ -70,6 +70,9 @@ impl Class {
     }
 }
 
+/// How many unexplained differences of a call are printed as they are found.
+const PRINTED: u64 = 50;
+
 /// One input: the smallest of each kind is kept.
 #[derive(Clone, PartialEq, Eq, PartialOrd, Ord)]
 pub struct Input {
@@ -152,12 +155,16 @@ impl Tally {
         &mut self.rows[place]
     }
 
-    /// A case in which both sides, or ours and the model, should give the same.
+    /// A case in which both sides, or ours and the model, should give the same. Prints where they do not.
     pub fn same(&mut self, call: &'static str, same: bool, input: impl FnOnce() -> Input) {
         let row = self.row(call);
         row.cases += 1;
         if !same {
-            row.unexplained.add(input());
+            let input = input();
+            if row.unexplained.seen < PRINTED {
+                eprintln!("UNEXPLAINED in {call}: {}", input.shown());
+            }
+            row.unexplained.add(input);
         }
     }
 
