@@ -1,9 +1,10 @@
 //! Feeds the core and the Rust files the same inputs and prints, for each call, how many were compared, how many differ as
-//! explained, and every other difference with its smallest input. Ends with 1 if there is one.
+//! explained, and how many otherwise with the smallest input. These are printed to stderr too as they are found, the first
+//! fifty of each call. Ends with 1 if there is one.
 //!
-//! Words: `brief` for a short run, `tiny` for one under valgrind, which then watches the bytes around buffers; a number for the seed of the random inputs; `paths`,
-//! `meaning`, `builder`, `grouping`, `map`, `store` for these parts alone. `sample FOLDER` compares nothing and writes a fixed
-//! sample of the Rust's answers.
+//! Words: `brief` for a short run, `tiny` for one under valgrind, which then watches the bytes around buffers; a number for the
+//! seed of the random inputs; `paths`, `meaning`, `builder`, `grouping`, `map`, `store` for these parts alone. `sample FOLDER`
+//! compares nothing and writes a fixed sample of the Rust's answers. Ends with 2 at any other word.
 
 mod building;
 mod damage;
@@ -221,6 +222,17 @@ fn write_sample(folder: &str) {
     }
 }
 
+/// The parts of a run, in their order.
+const PARTS: [&str; 6] = ["paths", "meaning", "builder", "grouping", "map", "store"];
+
+/// Ends with 2 at a word that says nothing, rather than run something else than was meant.
+fn usage(word: &str) -> ! {
+    let parts = PARTS.join("|");
+    eprintln!("differ: {word:?} is not understood");
+    eprintln!("usage: differ [brief|tiny] [SEED] [{parts}]...; differ sample FOLDER");
+    std::process::exit(2);
+}
+
 fn main() {
     let words: Vec<String> = std::env::args().skip(1).collect();
     if let [word, folder] = &words[..] {
@@ -228,14 +240,19 @@ fn main() {
             return write_sample(folder);
         }
     }
+    let known = |word: &str| {
+        ["brief", "tiny"].contains(&word) || PARTS.contains(&word) || word.parse::<u64>().is_ok()
+    };
+    if let Some(word) = words.iter().find(|w| !known(w)) {
+        usage(word);
+    }
     let has = |word: &str| words.iter().any(|w| w == word);
     let size = match (has("tiny"), has("brief")) {
         (true, _) => Size::Tiny,
         (_, true) => Size::Brief,
         _ => Size::Whole,
     };
-    let parts = ["paths", "meaning", "builder", "grouping", "map", "store"];
-    let all = !parts.into_iter().any(has);
+    let all = !PARTS.into_iter().any(has);
     let seed: u64 = words.iter().find_map(|w| w.parse().ok()).unwrap_or(1);
     println!("seed {seed}, words {words:?}");
     if size == Size::Tiny {
@@ -245,7 +262,7 @@ fn main() {
     theirs::print_other_panics();
     let mut tally = Tally::default();
     let t = &mut tally;
-    for (part, name) in (0..).zip(parts) {
+    for (part, name) in (0..).zip(PARTS) {
         if !all && !has(name) {
             continue;
         }
