@@ -9,7 +9,7 @@ use crate::guard::Guarded;
 use crate::inputs::Random;
 use crate::model::{self, pack, show};
 use crate::sheets::{changed, Map, Rule};
-use crate::sides::ours;
+use crate::sides::{allocated, ours, owned};
 use crate::tally::{Input, Tally};
 use crate::their_groups::Groups;
 use crate::theirs::Made;
@@ -115,6 +115,8 @@ pub fn insert(map: &mut Map, sheet: &mut Guarded, area: &Area, value: u64, t: &m
         true => number(position),
         false => refused(14),
     };
+    let mut typed = AreaMap::lent(sheet.lent().to_vec());
+    let said = typed.insert(area.ours(), value);
     let now = plain::map_insert(sheet.lent_mut(), with_noise(area, value), value);
     if model.status == 0 {
         map.rules.push(as_rule(area, value));
@@ -123,6 +125,14 @@ pub fn insert(map: &mut Map, sheet: &mut Guarded, area: &Area, value: u64, t: &m
     let same = now == model && sheet.holds(&content);
     t.same("map: insert", same, || {
         input(map, format!("insert {}: ours {now:?}", area.show()))
+    });
+    let model = match model.status {
+        0 => Ok(model.value),
+        number => Err(Refusal::from_number(number)),
+    };
+    let same = said == model && typed.bytes() == content;
+    t.same("typed forms", same, || {
+        input(map, format!("insert {}: typed {said:?}", area.show()))
     });
 }
 
@@ -229,6 +239,10 @@ pub fn read_back(map: &Map, sheet: &[u8], t: &mut Tally) {
     });
     let typed = AreaMap::lent(sheet);
     let past = map.rules.len() as u64;
+    let now = (typed.test(), typed.count());
+    t.same("typed forms", now == (Ok(()), Ok(past)), || {
+        input(map, format!("test and count: {now:?}"))
+    });
     for i in (0..=past).chain([u64::MAX]) {
         let rule = map.rules.get(i as usize);
         let now = plain::map_rule(sheet, i);
@@ -243,6 +257,8 @@ pub fn read_back(map: &Map, sheet: &[u8], t: &mut Tally) {
         t.same("map: rule_path", path == model, || {
             input(map, format!("path of rule {i}: {path:?}"))
         });
+        let now = owned(typed.rule_path(i));
+        allocated(t, "rule_path", now, &path, |said| input(map, said));
         let now = typed
             .rule(i)
             .map(|r| r.map(|r| (r.subspace, r.times, r.value, r.count)));
@@ -299,6 +315,12 @@ fn no_map(bytes: &[u8], area: &Area, t: &mut Tally) {
     let lent = AreaMap::lent(sheet.lent());
     let now = ours(60, |out| lent.write_rule_path(0, out));
     refuses("path", now == Made::Refused(2), format!("{now:?}"));
+    let now = owned(lent.rule_path(0));
+    refuses("path, typed", now == Made::Refused(2), format!("{now:?}"));
+    let now = (lent.test(), lent.count(), lent.rule(0));
+    let bad = Refusal::BadSheet;
+    let same = now == (Err(bad), Err(bad), Err(bad));
+    refuses("typed forms", same, format!("{now:?}"));
 }
 
 /// A map that was changed and is one all the same: read, listed and inserted into. The area's path may be none under its limits.

@@ -48,11 +48,24 @@ pub fn ours(longest: usize, call: impl Fn(&mut [u8]) -> Result<Option<usize>, Re
 }
 
 /// What the form that allocates its answer gives: the same.
-fn owned(path: Result<Option<wotskrale::Path>, Refusal>) -> Made {
+pub fn owned(path: Result<Option<wotskrale::Path>, Refusal>) -> Made {
     match path {
         Ok(path) => path.map_or(Made::Nothing, |p| Made::Bytes(p.into_bytes())),
         Err(refusal) => Made::Refused(refusal.number()),
     }
+}
+
+/// A form that allocates its answer, against the one that writes into a buffer.
+pub fn allocated(
+    t: &mut Tally,
+    call: &str,
+    now: Made,
+    made: &Made,
+    input: impl FnOnce(String) -> Input,
+) {
+    t.same("allocated forms", now == *made, || {
+        input(format!("{call} {}, written {}", shown(&now), shown(made)))
+    });
 }
 
 /// What was made, in words.
@@ -192,6 +205,11 @@ impl<'s> View<'s> {
         let made = ours(longest, |out| {
             writing::write_component(limits, lent, n, out)
         });
+        let now = match lent.component(limits, n) {
+            Ok(component) => component.map_or(Made::Nothing, Made::Bytes),
+            Err(refusal) => Made::Refused(refusal.number()),
+        };
+        self.allocated(t, "component", now, &made);
         let theirs = theirs.map_or(Made::Nothing, Made::Bytes);
         t.same("write_component", made == theirs, || {
             self.input(format!("i {n}: ours {made:?}, Rust {theirs:?}"))
@@ -204,11 +222,8 @@ impl<'s> View<'s> {
         });
     }
 
-    /// The forms that allocate their answers, against those that write into a buffer.
     fn allocated(&self, t: &mut Tally, call: &str, now: Made, made: &Made) {
-        t.same("allocated forms", now == *made, || {
-            self.input(format!("{call} {}, written {}", shown(&now), shown(made)))
-        });
+        allocated(t, call, now, made, |said| self.input(said));
     }
 
     /// The least paths above.
@@ -218,6 +233,8 @@ impl<'s> View<'s> {
         let made = ours(longest, |out| {
             least::greater_but_not_prefixed(limits, lent, out)
         });
+        let now = owned(lent.greater_but_not_prefixed(limits));
+        self.allocated(t, "greater_but_not_prefixed", now, &made);
         self.same(
             t,
             "greater_but_not_prefixed",
@@ -225,6 +242,7 @@ impl<'s> View<'s> {
             self.rust.greater_but_not_prefixed(),
         );
         let made = ours(longest, |out| least::successor(limits, lent, out));
+        self.allocated(t, "successor", owned(lent.successor(limits)), &made);
         self.next(
             t,
             "successor",
@@ -233,6 +251,8 @@ impl<'s> View<'s> {
             self.rust.successor(),
         );
         let made = ours(longest, |out| least::singleton_range(limits, lent, out));
+        let now = owned(lent.singleton_range(limits));
+        self.allocated(t, "singleton_range", now, &made);
         self.next(
             t,
             "singleton_range",
@@ -296,6 +316,12 @@ impl<'s> View<'s> {
         let theirs = common.component_count();
         t.same("longest_common_prefix", now == Ok(theirs), || {
             what(format!("ours {now:?}, Rust {theirs:?}"))
+        });
+        let typed = a.longest_common_prefix(limits, b);
+        let same = typed.map(PathRef::count) == now
+            && typed.is_ok_and(|p| std::ptr::eq(p.bytes(), a.bytes()));
+        t.same("typed forms", same, || {
+            what(format!("longest_common_prefix {typed:?}"))
         });
         let made = ours(limits.longest_packed(), |out| {
             writing::write_longest_common_prefix(limits, a, b, out).map(Some)
@@ -392,6 +418,9 @@ pub fn make(set: &dyn Set, parts: &[Vec<u8>], t: &mut Tally) {
     let made = ours(longest, |out| {
         construction::from_slices(limits, &lengths, &bytes, out).map(Some)
     });
+    let slices: Vec<&[u8]> = parts.iter().map(Vec::as_slice).collect();
+    let now = owned(wotskrale::Path::from_slices(limits, &slices).map(Some));
+    allocated(t, "from_slices", now, &made, input);
     both(
         t,
         "from_slices",
@@ -412,6 +441,8 @@ pub fn make(set: &dyn Set, parts: &[Vec<u8>], t: &mut Tally) {
         let made = ours(longest, |out| {
             construction::new_singleton(limits, component, out).map(Some)
         });
+        let now = owned(wotskrale::Path::new_singleton(limits, component).map(Some));
+        allocated(t, "new_singleton", now, &made, input);
         both(
             t,
             "new_singleton",
@@ -444,6 +475,9 @@ fn from_iter(set: &dyn Set, parts: &[Vec<u8>], stated: u64, by_slices: &Made, t:
         let text = format!("components {} with total {stated}: {said}", show(parts));
         Input::new(limits, total(parts) + parts.len(), text)
     };
+    let slices = parts.iter().map(Vec::as_slice);
+    let now = owned(wotskrale::Path::new_from_iter(limits, stated, slices).map(Some));
+    allocated(t, call, now, &made, text);
     if stated == bytes.len() as u64 {
         return both(t, call, made, by_slices.clone(), direct, text);
     }
@@ -478,15 +512,16 @@ pub fn bare(set: &dyn Set, t: &mut Tally) {
     t.same("new_empty", same, || {
         Input::new(limits, 0, format!("ours {made:?}"))
     });
+    let input = |said: String| Input::new(limits, 0, said);
+    let now = owned(wotskrale::Path::new_empty(limits).map(Some));
+    allocated(t, "new_empty", now, &made, input);
 
     let theirs = set.new_max();
     let made = ours(limits.longest_packed(), |out| {
         least::new_max(limits, out).map(Some)
     });
     let now = owned(wotskrale::Path::new_max(limits).map(Some));
-    t.same("allocated forms", now == made, || {
-        Input::new(limits, 0, format!("new_max {}", shown(&now)))
-    });
+    allocated(t, "new_max", now, &made, input);
     let greatest = Made::Bytes(pack(&greatest(limits)));
     let input = || {
         let said = format!("ours {}, Rust {}", shown(&made), shown(&theirs));

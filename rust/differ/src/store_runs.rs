@@ -2,13 +2,14 @@
 //! whole history out anew each time.
 
 use wotskrale::plain::{self, EntryAnswer, OfferAnswer, StoreAnswer};
+use wotskrale::store::{Head, Numbers};
 use wotskrale::{Entry, Limits, Offered, PathRef, Refusal, MAX_CAPACITY};
 
 use crate::guard::Guarded;
 use crate::inputs::Random;
 use crate::model::{pack, show};
 use crate::sheets::changed;
-use crate::sides::ours;
+use crate::sides::{allocated, ours, owned};
 use crate::store_model::{Fate, Filed, Offer, Store};
 use crate::tally::{Input, Tally};
 use crate::theirs::Made;
@@ -230,21 +231,31 @@ fn read_back(store: &Store, sheet: &[u8], t: &mut Tally) {
         t.same("store: entry_path", path == model, || {
             input(format!("path of entry {i}: {path:?}"))
         });
-        let now = typed
-            .entry(i)
-            .map(|e| e.map(|e| (e.subspace, e.timestamp, e.digest)));
-        let model = entry.map(|e| (e.subspace, e.timestamp, e.digest));
+        let now = owned(typed.entry_path(i));
+        allocated(t, "entry_path", now, &path, input);
+        let now = typed.entry(i);
+        let model = entry.map(|e| Head {
+            subspace: e.subspace,
+            timestamp: e.timestamp,
+            payload_length: e.payload_length,
+            count: e.path.len() as u64,
+            digest: e.digest,
+        });
         t.same("typed forms", now == Ok(model), || {
             input(format!("entry {i}: {now:?}"))
         });
     }
-    let now = typed
-        .numbers()
-        .map(|n| (n.limits, n.count, n.held, n.let_go));
-    let model = (store.limits, past, store.held() as u64, store.let_go as u64);
-    t.same("typed forms", now == Ok(model), || {
-        input(format!("numbers {now:?}"))
-    });
+    let now = typed.numbers();
+    let model = Numbers {
+        limits: store.limits,
+        capacity: store.capacity,
+        count: past,
+        namespace: store.namespace,
+        held: store.held() as u64,
+        let_go: store.let_go as u64,
+    };
+    let same = now == Ok(model) && typed.test() == Ok(());
+    t.same("typed forms", same, || input(format!("numbers {now:?}")));
 }
 
 /// Bytes that may be no store: every call against the model of the layout.
@@ -288,6 +299,12 @@ fn no_store(bytes: &[u8], offer: &Offer, t: &mut Tally) {
     let lent = wotskrale::Store::lent(sheet.lent());
     let now = ours(60, |out| lent.write_entry_path(0, out));
     refuses("path", now == Made::Refused(2), format!("{now:?}"));
+    let now = owned(lent.entry_path(0));
+    refuses("path, typed", now == Made::Refused(2), format!("{now:?}"));
+    let now = (lent.test(), lent.numbers(), lent.entry(0));
+    let bad = Refusal::BadSheet;
+    let same = now == (Err(bad), Err(bad), Err(bad));
+    refuses("typed forms", same, format!("{now:?}"));
 }
 
 /// A store that was changed and is one all the same: read and offered to.
