@@ -3,14 +3,15 @@
 
 use std::cmp::Ordering;
 
-use wotskrale::{least, relation, Limits, PathRef, Range3d};
+use wotskrale::{
+    least, relation, AreaSubspace, Limits, PathRef, Range, Range3d, RangeEnd, Refusal,
+};
 
 use crate::groups::{Area, Lent};
 use crate::model::{pack, show, Parts};
 use crate::sides::{ours, shown};
 use crate::tally::{Input, Tally};
 use crate::theirs::Made;
-use wotskrale::{AreaSubspace, Range};
 
 /// All paths, in order.
 fn all(limits: Limits) -> Vec<Parts> {
@@ -86,44 +87,80 @@ pub fn paths(limits: Limits, t: &mut Tally) {
     });
 }
 
-/// An area and the 3d range made of it include the same triplets.
+/// Whether an area includes a triplet, by what the words mean: its subspace is any or that one, the triplet's path begins with
+/// the area's components, and its time is not before the start and before the end, where there is one.
+fn includes(area: &Area, subspace: u64, path: &Parts, time: u64) -> bool {
+    let subspaces = match area.subspace {
+        AreaSubspace::Any => true,
+        AreaSubspace::Id(id) => id == subspace,
+    };
+    let before_the_end = match area.times.end {
+        RangeEnd::Open => true,
+        RangeEnd::Closed(end) => time < end,
+    };
+    let below = path.starts_with(&area.path.parts);
+    subspaces && below && area.times.start <= time && before_the_end
+}
+
+/// In how many turns there is each of three things with each of five.
+const TURNS: usize = 15;
+
+/// An area and the 3d range made of it include the triplets that are meant. Where there are few paths, every area and triplet of
+/// these subspaces and times is taken; else each path takes the next of them.
 pub fn triplets(limits: Limits, t: &mut Tally) {
     let all: Vec<Lent> = all(limits).into_iter().map(Lent::new).collect();
-    let subspaces = [0, 1, 2, u64::MAX - 1, u64::MAX];
+    let turns = if all.len() < 20 { TURNS } else { 1 };
     let kinds = [
         AreaSubspace::Any,
         AreaSubspace::Id(1),
         AreaSubspace::Id(u64::MAX),
     ];
+    let times = [
+        Range::new(0, RangeEnd::Closed(2)),
+        Range::new(1, RangeEnd::Closed(2)),
+        Range::new(0, RangeEnd::Open),
+        Range::new(1, RangeEnd::Open),
+        Range::new(2, RangeEnd::Closed(1)),
+    ];
     for (at, path) in all.iter().enumerate() {
-        let area = Area {
-            subspace: kinds[at % 3],
-            path: path.clone(),
-            times: Range::new(at as u64 % 2, wotskrale::RangeEnd::Closed(2)),
-        };
-        let mut out = vec![0; limits.longest_packed()];
-        let Ok(range) = Range3d::from_area(limits, area.ours(), &mut out) else {
-            t.same("meaning: area to 3d range", false, || {
-                Input::new(limits, 0, format!("{} refused", area.show()))
-            });
-            continue;
-        };
-        for (turn, other) in all.iter().enumerate() {
-            let (subspace, time) = (subspaces[turn % 5], turn as u64 / 5 % 3);
-            let meant = area
-                .ours()
-                .includes_triplet(limits, subspace, other.lent(), time);
-            let now = range.includes_triplet(limits, subspace, other.lent(), time);
-            let first = area.ours().includes_triplet(limits, 1, other.lent(), 1);
-            let second = range.includes_triplet(limits, 1, other.lent(), 1);
-            t.same(
-                "meaning: area to 3d range",
-                now == meant && first == second,
-                || {
-                    let text = format!("{} at {subspace} {} {time}", area.show(), other.show());
-                    Input::new(limits, path.weight() + other.weight(), text)
-                },
-            );
+        for turn in at..at + turns {
+            let area = Area {
+                subspace: kinds[turn % 3],
+                path: path.clone(),
+                times: times[turn % 5],
+            };
+            triplets_of(limits, &area, &all, turns, t);
+        }
+    }
+}
+
+/// One area and all paths.
+fn triplets_of(limits: Limits, area: &Area, all: &[Lent], turns: usize, t: &mut Tally) {
+    let mut out = vec![0; limits.longest_packed()];
+    let Ok(range) = Range3d::from_area(limits, area.ours(), &mut out) else {
+        return t.same("meaning: area to 3d range", false, || {
+            Input::new(limits, 0, format!("{} refused", area.show()))
+        });
+    };
+    let subspaces = [0, 1, 2, u64::MAX - 1, u64::MAX];
+    let own = match area.subspace {
+        AreaSubspace::Any => 1,
+        AreaSubspace::Id(id) => id,
+    };
+    for (at, path) in all.iter().enumerate() {
+        let asked = (at..at + turns).map(|turn| (subspaces[turn % 5], turn as u64 % 3));
+        for (subspace, time) in asked.chain([(own, 1)]) {
+            let meant = includes(area, subspace, &path.parts, time);
+            let input = |now: Result<bool, Refusal>| {
+                let what = format!("{} at {subspace} {} {time}", area.show(), path.show());
+                let weight = area.path.weight() + path.weight();
+                Input::new(limits, weight, format!("{what}: {now:?}, meant {meant}"))
+            };
+            let lent = path.lent();
+            let now = area.ours().includes_triplet(limits, subspace, lent, time);
+            t.same("meaning: area", now == Ok(meant), || input(now));
+            let now = range.includes_triplet(limits, subspace, lent, time);
+            t.same("meaning: area to 3d range", now == Ok(meant), || input(now));
         }
     }
 }
