@@ -6,9 +6,10 @@
 use std::cmp::Ordering;
 
 use wotskrale::plain::{
-    self, Answer, AreaAnswer, InterestAnswer, Range3dAnswer, RangeAnswer, SidesAnswer,
+    self, Answer, AreaAnswer, ConvertedAnswer, InterestAnswer, Range3dAnswer, RangeAnswer,
+    SidesAnswer,
 };
-use wotskrale::{AreaSubspace, Limits, Range, RangeEnd, Refusal};
+use wotskrale::{AreaSubspace, Limits, PathRef, Range, RangeEnd, Refusal};
 
 use crate::groups::{self, range, Area, Entry, Interest, Lent, PathRange, Range3d, Triplet};
 use crate::model::{self, range_order, range_order_of_the_rust, Parts};
@@ -221,8 +222,8 @@ fn standing(a: &PathRange, b: &PathRange, start: u64, kind: u64, end: u64) -> Pa
     )
 }
 
-fn path_range_parts(limits: Limits, range: Range<wotskrale::PathRef<'_>>) -> PathRangeParts {
-    let parts = |p: wotskrale::PathRef<'_>| p.components(limits).unwrap_or_default();
+fn path_range_parts(limits: Limits, range: Range<PathRef<'_>>) -> PathRangeParts {
+    let parts = |p: PathRef<'_>| p.components(limits).unwrap_or_default();
     (parts(range.start), range.get_end().map(|e| parts(*e)))
 }
 
@@ -525,48 +526,99 @@ pub fn from_area(set: &dyn Groups, a: &Area, t: &mut Tally) {
         });
     };
     let (next, successor) = (path.greater_but_not_prefixed(), path.successor());
-    let (written, now) = converted(limits, a);
+    let model = converted_answer(&theirs, &next);
     let packed = |end: &Option<Parts>| match end {
         Some(end) => Made::Bytes(model::pack(end)),
         None => Made::Nothing,
     };
+    let longest = limits.longest_packed();
+    let ask = |out: &mut [u8]| plain::range_3d_from_area(limits, a.ours().into(), out);
+    let written = ours(longest, |out| {
+        let answer = ask(out);
+        match (answer.status, answer.path_end_kind) {
+            (0, 0) => Ok(None),
+            (0, _) => Ok(Some(answer.written as usize)),
+            (number, _) => Err(Refusal::from_number(number)),
+        }
+    });
+    let now = ask(&mut vec![0; longest]);
     let same = written == next
+        && now == model
         && packed(&theirs.1 .1) == successor
-        && theirs.1 .0 == a.path.parts
-        && now == Ok((theirs.0, a.path.parts.clone(), theirs.2));
+        && theirs.1 .0 == a.path.parts;
     let said = || {
-        let ends = (
-            crate::sides::shown(&written),
-            theirs.1 .1.as_deref().map(model::show),
-        );
+        let end = theirs.1 .1.as_deref().map(model::show);
+        let written = crate::sides::shown(&written);
         input(format!(
-            "ours {now:?} ending {}, Rust ending {:?}",
-            ends.0, ends.1
+            "ours ending {written}, Rust ending {end:?}; {now:?}, meant {model:?}"
         ))
     };
     match same && next != successor {
         true => t.explained("3d range: from area", Class::FromArea, said),
         false => t.same("3d range: from area", same, said),
     }
-}
-
-/// An area as a 3d range by ours: the end of its paths as it was written, and the rest.
-fn converted(limits: Limits, a: &Area) -> (Made, Result<AreaAsRanges, Refusal>) {
-    let rest = |range: wotskrale::Range3d<'_>| {
-        let start = range.paths.start.components(limits).unwrap_or_default();
-        (range.subspaces, start, range.times)
+    // One byte too short for the end, where there is one: 15, and every other number 0.
+    if let Some(short) = (model.written as usize).checked_sub(1) {
+        let now = ask(&mut vec![0; short]);
+        let same = now == converted_refused(Refusal::OutTooSmall);
+        t.same("3d range: from area, short", same, || {
+            input(format!("a buffer of {short} bytes: {now:?}"))
+        });
+    }
+    let parts = |made: &Made| match made {
+        Made::Bytes(bytes) => model::read(limits, bytes, PathRef::whole(bytes).count()),
+        _ => None,
     };
-    let written = ours(limits.longest_packed(), |out| {
-        let range = wotskrale::Range3d::from_area(limits, a.ours(), out)?;
-        Ok(range.paths.get_end().map(|end| end.bytes().len()))
-    });
-    let mut out = vec![0; limits.longest_packed()];
-    let now = wotskrale::Range3d::from_area(limits, a.ours(), &mut out).map(rest);
-    (written, now)
+    let expected = (theirs.0, (theirs.1 .0, parts(&next)), theirs.2);
+    let mut out = vec![0; longest];
+    let now = wotskrale::Range3d::from_area(limits, a.ours(), &mut out);
+    let now = now.map(|range| range_3d_parts(limits, range));
+    typed(t, "from_area", now, expected, input);
 }
 
-/// Subspaces, the start of the paths, and times.
-type AreaAsRanges = (Range<u64>, Parts, Range<u64>);
+/// The whole answer: subspaces and times as the Rust has them, the area's path, and the count and length of the end that was
+/// written, both 0 where there is none.
+fn converted_answer((subspaces, paths, times): &Range3dParts, end: &Made) -> ConvertedAnswer {
+    let (subspace_end_kind, subspace_end) = end_numbers(subspaces.end);
+    let (time_end_kind, time_end) = end_numbers(times.end);
+    let (path_end_kind, end_count, written) = match end {
+        Made::Bytes(bytes) => {
+            let count = PathRef::whole(bytes).count();
+            (1, count, bytes.len() as u64)
+        }
+        _ => (0, 0, 0),
+    };
+    ConvertedAnswer {
+        status: 0,
+        subspace_start: subspaces.start,
+        subspace_end_kind,
+        subspace_end,
+        start_count: paths.0.len() as u64,
+        path_end_kind,
+        end_count,
+        written,
+        time_start: times.start,
+        time_end_kind,
+        time_end,
+    }
+}
+
+/// A refusal: all numbers but the status are 0.
+fn converted_refused(refusal: Refusal) -> ConvertedAnswer {
+    ConvertedAnswer {
+        status: refusal.number(),
+        subspace_start: 0,
+        subspace_end_kind: 0,
+        subspace_end: 0,
+        start_count: 0,
+        path_end_kind: 0,
+        end_count: 0,
+        written: 0,
+        time_start: 0,
+        time_end_kind: 0,
+        time_end: 0,
+    }
+}
 
 /// Two entries.
 pub fn entries(set: &dyn Groups, a: &Entry, b: &Entry, t: &mut Tally) {
