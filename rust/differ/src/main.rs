@@ -1,6 +1,6 @@
 //! Feeds the core and the Rust files the same inputs and prints, for each call, how many were compared, how many differ as
 //! explained, and how many otherwise with the smallest input. These are printed to stderr too as they are found, the first
-//! fifty of each call. Ends with 1 if there is one.
+//! fifty of each row. Ends with 1 if there is one.
 //!
 //! Words: `brief` for a short run, `tiny` for one under valgrind, which then watches the bytes around buffers; a number for the
 //! seed of the random inputs; `paths`, `meaning`, `builder`, `grouping`, `map`, `store` for these parts alone. `sample FOLDER`

@@ -70,7 +70,7 @@ impl Class {
     }
 }
 
-/// How many unexplained differences of a call are printed as they are found.
+/// How many unexplained differences of a row are printed as they are found.
 const PRINTED: u64 = 50;
 
 /// One input: the smallest of each kind is kept.
