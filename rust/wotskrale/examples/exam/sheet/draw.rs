@@ -9,7 +9,7 @@ pub struct Draw(pub u64);
 
 /// A start of paths and perhaps an end, which then is above the start.
 pub struct Paths {
-    start: Path,
+    pub start: Path,
     end: Option<Path>,
 }
 

@@ -289,8 +289,11 @@ fn appending(draw: &mut Draw) -> Result<Question, Refusal> {
 
 fn builder(draw: &mut Draw) -> Result<Question, Refusal> {
     let limits = draw.limits();
-    let (length, count) = (draw.below(limits.mpl + 2), draw.below(limits.mcc + 2));
     let mut components = draw.components(limits);
+    let (length, count) = match draw.below(3) {
+        0 => (draw.below(limits.mpl + 2), draw.below(limits.mcc + 2)),
+        _ => (components.concat().len() as u64, components.len() as u64),
+    };
     if draw.seldom(8) {
         components.push(vec![1; limits.mcl as usize + 1]);
     }
@@ -438,7 +441,10 @@ fn almost(draw: &mut Draw) -> Result<Question, Refusal> {
     let limits = draw.limits();
     let p = draw.path(limits)?;
     let q = draw.near(limits, &p)?;
-    let (a, b) = (draw.area(&p), draw.area(&q));
+    let (a, mut b) = (draw.area(&p), draw.area(&q));
+    if draw.below(3) > 0 {
+        b.times = a.times;
+    }
     let question = format!(
         "An area almost includes another if its path is a prefix of the other's, its times include all of the other's times, and \
          the subspaces are not two that differ (any subspace never clashes, on either side). Does the area of {} almost include \
@@ -541,7 +547,8 @@ fn ranges_3d_order(draw: &mut Draw) -> Result<Question, Refusal> {
 
 fn pruned_range_3d(draw: &mut Draw) -> Result<Question, Refusal> {
     let limits = draw.limits();
-    let (paths, q) = (draw.paths(limits)?, draw.path(limits)?);
+    let paths = draw.paths(limits)?;
+    let q = draw.near(limits, &paths.start)?;
     let (a, id, time) = (draw.range_3d(&paths), draw.below(3), draw.below(12));
     let question = format!(
         "By the rule, a 3d range could be pruned by an entry if its subspaces include the entry's, the entry's time is not below \
@@ -659,9 +666,15 @@ fn store(draw: &mut Draw) -> Result<Question, Refusal> {
     let mut question =
         format!("A fresh store of namespace 0 with room for {capacity} is offered, in turn:");
     let mut answers = Vec::new();
-    for i in 1..5 {
-        let p = draw.near(limits, &base)?;
-        let offer = draw.entry(&p);
+    let near: Result<Vec<Path>, Refusal> = (0..4).map(|_| draw.near(limits, &base)).collect();
+    let near = near?;
+    let mut last = None;
+    for (i, p) in (1..).zip(&near) {
+        let offer = match last {
+            Some(last) if draw.seldom(6) => last,
+            _ => draw.entry(p),
+        };
+        last = Some(offer);
         question += &format!(" ({i}) {};", entry(limits, &offer)?);
         answers.push(match store.offer(&offer) {
             Ok(wotskrale::Offered::Taken(pruned)) => format!("taken, pruning {pruned}"),
