@@ -97,7 +97,18 @@ impl<'a> Area<'a> {
         ))
     }
 
-    /// Whether an entry of this subspace, path and timestamp can prune entries of this area.
+    /// Whether an entry of this subspace, path and timestamp can prune entries of this area: same or any subspace, a timestamp
+    /// not below the start of the times, related paths. The end of the times is not looked at, so this is also yes where the
+    /// times include nothing.
+    ///
+    /// ```
+    /// use wotskrale::{Area, Limits, PathRef, Range, RangeEnd, Refusal};
+    ///
+    /// let limits = Limits::new(2, 2, 3);
+    /// let nothing = Area { times: Range::new(5, RangeEnd::Closed(5)), ..Area::new_full() };
+    /// assert!(nothing.could_be_pruned_by_triplet(limits, 0, PathRef::new(&[0; 8], 0), 5)?);
+    /// # Ok::<(), Refusal>(())
+    /// ```
     pub fn could_be_pruned_by_triplet(
         self,
         limits: Limits,
@@ -111,7 +122,18 @@ impl<'a> Area<'a> {
         ))
     }
 
-    /// Whether another area is included.
+    /// Whether another area is included. Times are compared by starts and ends, open being greatest: where the other's include
+    /// nothing, they are not included by that alone.
+    ///
+    /// ```
+    /// use wotskrale::{Area, Limits, Range, RangeEnd, Refusal};
+    ///
+    /// let limits = Limits::new(2, 2, 3);
+    /// let nothing = Area { times: Range::new(5, RangeEnd::Closed(5)), ..Area::new_full() };
+    /// let later = Area { times: Range::new_open(6), ..Area::new_full() };
+    /// assert!(!later.includes_area(limits, nothing)?);
+    /// # Ok::<(), Refusal>(())
+    /// ```
     pub fn includes_area(self, limits: Limits, other: Area<'_>) -> Result<bool, Refusal> {
         yes(plain::area_includes_area(limits, self.into(), other.into()))
     }

@@ -105,8 +105,9 @@ impl<B: AsRef<[u8]>> AreaMap<B> {
     pub fn intersecting(&self, area: Area<'_>) -> Result<Vec<u64>, Refusal> {
         let mut out = vec![0; 8 * self.count()? as usize];
         let count = self.write_intersecting(area, &mut out)?;
-        let numbers = out.as_chunks::<8>().0.iter().take(count);
-        Ok(numbers.map(|n| u64::from_le_bytes(*n)).collect())
+        let numbers = out.chunks_exact(8).filter_map(|n| n.first_chunk());
+        let numbers = numbers.map(|n| u64::from_le_bytes(*n));
+        Ok(numbers.take(count).collect())
     }
 
     /// The same positions in 8 bytes each, written to the front of a buffer: how many.

@@ -171,7 +171,7 @@ impl<'a> PathRef<'a> {
 
     /// This path with components behind it.
     pub fn append_slice(self, limits: Limits, components: &[&[u8]]) -> Result<Path, Refusal> {
-        let (lengths, bytes) = parts(components);
+        let (lengths, bytes) = parts(sum(components), components);
         let room = self.bytes.len() + lengths.len() + bytes.len();
         made(limits, room, |out| {
             construction::append_slice(limits, self, &lengths, &bytes, out)
@@ -265,7 +265,7 @@ impl Path {
     /// # Ok::<(), Refusal>(())
     /// ```
     pub fn from_slices(limits: Limits, components: &[&[u8]]) -> Result<Path, Refusal> {
-        let (lengths, bytes) = parts(components);
+        let (lengths, bytes) = parts(sum(components), components);
         let room = 8 + lengths.len() + bytes.len();
         made(limits, room, |out| {
             construction::from_slices(limits, &lengths, &bytes, out)
@@ -273,16 +273,43 @@ impl Path {
     }
 
     /// The path of these components, which have `total` bytes together: [`BadLengths`](Refusal::BadLengths) where they do not.
+    ///
+    /// No more components are asked for once they pass `total`, and no more of them are kept than can make a path.
+    ///
+    /// ```
+    /// use wotskrale::{Limits, Path, Refusal};
+    ///
+    /// let endless = std::iter::repeat(&[7_u8][..]);
+    /// assert_eq!(Path::new_from_iter(Limits::new(2, 2, 3), 2, endless.clone()), Err(Refusal::BadLengths));
+    /// assert!(Path::new_from_iter(Limits::new(2, 2, 3), 2, endless.take(2)).is_ok());
+    /// ```
     pub fn new_from_iter<'c>(
         limits: Limits,
         total: u64,
         components: impl IntoIterator<Item = &'c [u8]>,
     ) -> Result<Path, Refusal> {
-        let components: Vec<&[u8]> = components.into_iter().collect();
-        let (lengths, bytes) = parts(&components);
+        let mut first = Vec::new();
+        let mut sum: u128 = 0;
+        for component in components {
+            sum += component.len() as u128;
+            if first.len() as u64 <= Limits::BOUNDS.mcc {
+                first.push(component);
+            }
+            if sum > u128::from(total) {
+                break;
+            }
+        }
+        // Where the sum is cut, the stated number is changed with it, so that they are equal exactly if they were.
+        let cut = u64::try_from(sum).map_or(TOO_LONG, |sum| sum.min(TOO_LONG));
+        let stated = match cut {
+            TOO_LONG if sum == u128::from(total) => TOO_LONG,
+            TOO_LONG => 0,
+            _ => total,
+        };
+        let (lengths, bytes) = parts(cut, &first);
         let room = 8 + lengths.len() + bytes.len();
         made(limits, room, |out| {
-            construction::new_from_iter(limits, total, &lengths, &bytes, out)
+            construction::new_from_iter(limits, stated, &lengths, &bytes, out)
         })
     }
 
@@ -310,13 +337,38 @@ impl Path {
     }
 }
 
+/// More bytes than any path has, whatever the limits are.
+const TOO_LONG: u64 = Limits::BOUNDS.mpl + 1;
+
+/// How many bytes components have together, but no more than [`TOO_LONG`].
+fn sum(components: &[&[u8]]) -> u64 {
+    let lengths = components.iter().map(|component| component.len() as u64);
+    lengths.fold(0, |sum: u64, length| {
+        sum.saturating_add(length).min(TOO_LONG)
+    })
+}
+
 /// Component lengths as 8-byte numbers, and the components' bytes end to end.
-fn parts(components: &[&[u8]]) -> (Vec<u8>, Vec<u8>) {
-    let mut lengths = Vec::with_capacity(8 * components.len());
-    for component in components {
-        lengths.extend_from_slice(&(component.len() as u64).to_le_bytes());
-    }
-    (lengths, components.concat())
+///
+/// They are those of `components`, which have `sum` bytes together (as [`sum`] says), unless they are more than any limits allow.
+/// Then nothing is copied, and the core is handed something small that it refuses for the same reason: one component of
+/// [`TOO_LONG`] bytes; or, where it is the count that passes every limit, `sum` bytes in one component more than any path has.
+/// So components further behind need not be in the slice.
+fn parts(sum: u64, components: &[&[u8]]) -> (Vec<u8>, Vec<u8>) {
+    let behind = match (sum, components.len() as u64 > Limits::BOUNDS.mcc) {
+        (TOO_LONG.., _) => 0,
+        (_, true) => Limits::BOUNDS.mcc,
+        (_, false) => {
+            let mut lengths = Vec::with_capacity(8 * components.len());
+            for component in components {
+                lengths.extend_from_slice(&(component.len() as u64).to_le_bytes());
+            }
+            return (lengths, components.concat());
+        }
+    };
+    let mut lengths = sum.to_le_bytes().to_vec();
+    lengths.resize(8 * (1 + behind as usize), 0);
+    (lengths, vec![0; sum as usize])
 }
 
 /// The path that a call writes. It has at most `room` bytes, or more than any packed path under the limits has: then the call

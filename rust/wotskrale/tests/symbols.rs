@@ -12,9 +12,10 @@ type Signature = (Vec<String>, String);
 /// Fields by name and type, in order.
 type Fields = Vec<(String, String)>;
 
-/// The names of the archives, which are those of the crates.
+/// The names of the archives, which are those of the crates; not those of the store's where its calls are not declared.
 fn names() -> impl Iterator<Item = &'static str> {
-    env!("WOTSKRALE_NAMES").split(' ')
+    let names = env!("WOTSKRALE_NAMES").split(' ');
+    names.filter(|name| cfg!(feature = "store") || !name.starts_with("host_store"))
 }
 
 fn without_space(text: &str) -> String {
