@@ -3,14 +3,15 @@
 use Prim.Native.Nat.{ℕ, _+_, _-_, _*_, _≤_, _<_}
 use mathlib.Core.Path.{_≡_, refl, sym, _∙_, ap}
 use mathlib.Core.List.{List, [], _∷_, _++_, append-assoc, append-nil}
-use mathlib.Core.Bool.{true, false}
+use mathlib.Core.Option.{none, some}
+use mathlib.Core.Bool.{true, false, cond}
 use native.Mathlib.Omega.{arith}
 use native.Mathlib.Nat.{mul-le-mul}
 use lib.ListN.{length, drop, replicate-append-replicate}
 use borrow.Author.Tests.{le-leb, lt-leb}
 use Rattle.willow.specs.declared.Limits.{Limits}
 use Rattle.willow.specs.declared.Refusal.the-variants.{BadLimits, OutTooSmall}
-use Rattle.willow.specs.Answers.{limitsRefusal, writtenLength, writtenBuffer}
+use Rattle.willow.specs.Answers.{unless, limitsRefusal, writtenLength, writtenBuffer}
 use Rattle.willow.specs.Limits.{Accepted, acceptedLimits, acceptedCapacity, maxCapacity}
 use Rattle.willow.specs.Numbers.{le}
 use Rattle.willow.specs.Refusals.{refused, value}
@@ -107,7 +108,7 @@ module _ (L : Limits) (N : ℕ) where
 
   pub capacity-bad : acceptedLimits L ≡ true → acceptedCapacity N ≡ false → freshMap L N ≡ refused BadLimits
   unfolding freshMap limitsRefusal
-  capacity-bad h e = rw (h, e)
+  capacity-bad h e = rw h (ap (λ t. unless (cond t none (some BadLimits)) (value (mapLayout (record { limits = L; capacity = N }) []))) e)
 
   pub fresh-fine : acceptedLimits L ≡ true → acceptedCapacity N ≡ true → value (mapLayout (record { limits = L; capacity = N }) []) ≡ freshMap L N
   unfolding freshMap limitsRefusal
