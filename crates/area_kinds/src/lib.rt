@@ -46,7 +46,7 @@ pub fn read_area(
 ) -> AreaRead
     ensures { λ r. ⌜ areaRead r ≡ onKinds limits (areaFrom kind id count start «end_kind» end) value ⌝ }
 {
-    if willow::limits_accepted(limits) {
+    if refusals::limits_accepted(limits) {
         return read_kinds(kind, id, count, start, end_kind, end);
     }
     AreaRead::Refused(Refusal::BadLimits)

@@ -27,7 +27,7 @@ fn declared_test(limits: Limits, length: u64, count: u64) -> Tested
 fn state_test(limits: Limits, length: u64, count: u64, appended: u64, out: &[u8]) -> Tested
     ensures { λ r. ⌜ testedRefusal r ≡ stateRefusal (stateOf limits length count appended) (now (out .entry)) ⌝ }
 {
-    if willow::limits_accepted(limits) {
+    if refusals::limits_accepted(limits) {
         if inner::long_enough(length, count, out) {
             if inner::agrees(limits.mcl, length, count, appended, out) {
                 return declared_test(limits, length, count);
@@ -54,7 +54,7 @@ fn known_length(limits: Limits, length: u64, count: u64, appended: u64, out: &[u
 pub fn start_test(limits: Limits, length: u64, count: u64, out: &[u8]) -> Tested
     ensures { λ r. ⌜ testedRefusal r ≡ newRefusal limits length count (now (out .entry)) ⌝ }
 {
-    if willow::limits_accepted(limits) {
+    if refusals::limits_accepted(limits) {
         let t = declared_test(limits, length, count);
         let Tested::Fine = t else {
             return t;

@@ -77,7 +77,7 @@ pub fn new_from_iter(
     if total == bytes.len() as u64 {
         return from_slices(limits, lengths, bytes, out);
     }
-    if willow::limits_accepted(limits) {
+    if refusals::limits_accepted(limits) {
         return Counted::Refused(Refusal::BadLengths);
     }
     Counted::Refused(Refusal::BadLimits)

@@ -23,7 +23,7 @@ pub fn tested(t: Tested) -> u64
     ensures { λ r. ⌜ r ≡ refusalStatus (testedRefusal t) ⌝ }
 {
     match t {
-        Tested::Refused(r) => willow::refusal_number(r),
+        Tested::Refused(r) => refusals::refusal_number(r),
         Tested::Fine => 0,
     }
 }
@@ -34,7 +34,7 @@ pub fn asked(a: Asked) -> Answer
 {
     match a {
         Asked::Refused(r) => Answer {
-            status: willow::refusal_number(r),
+            status: refusals::refusal_number(r),
             value: 0,
         },
         Asked::No => Answer {
@@ -54,12 +54,12 @@ pub fn compared(c: Compared) -> Answer
 {
     match c {
         Compared::Refused(r) => Answer {
-            status: willow::refusal_number(r),
+            status: refusals::refusal_number(r),
             value: 0,
         },
         Compared::Is(o) => Answer {
             status: 0,
-            value: willow::order_number(o),
+            value: refusals::order_number(o),
         },
     }
 }
@@ -70,7 +70,7 @@ pub fn counted(c: Counted) -> Answer
 {
     match c {
         Counted::Refused(r) => Answer {
-            status: willow::refusal_number(r),
+            status: refusals::refusal_number(r),
             value: 0,
         },
         Counted::Nothing => Answer {

@@ -54,7 +54,7 @@ pub fn new_max(limits: Limits, out: &mut [u8]) -> Counted
     ensures { λ r. ⌜ countedOutcome r ≡ writtenLength (packedOutcome (greatestOutcome limits)) (now (out .entry)) ⌝ }
     ensures { λ _. ⌜ now (out .exit) ≡ writtenBuffer (packedOutcome (greatestOutcome limits)) (now (out .entry)) ⌝ }
 {
-    if !willow::limits_accepted(limits) {
+    if !refusals::limits_accepted(limits) {
         return Counted::Refused(Refusal::BadLimits);
     }
     let table = 8 + 8 * limits.mcc as usize;

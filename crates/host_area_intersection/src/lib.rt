@@ -68,7 +68,7 @@ fn met(m: AreaMet) -> AreaAnswer
     ensures { λ r. ⌜ r ≡ givenArea (metOutcome m) ⌝ }
 {
     match m {
-        AreaMet::Refused(r) => no_area(willow::refusal_number(r)),
+        AreaMet::Refused(r) => no_area(refusals::refusal_number(r)),
         AreaMet::Nothing => no_area(255),
         AreaMet::First(a) => given_area(0, a),
         AreaMet::Second(a) => given_area(1, a),

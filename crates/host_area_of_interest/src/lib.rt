@@ -85,7 +85,7 @@ fn met(m: InterestMet) -> InterestAnswer
     ensures { λ r. ⌜ r ≡ givenInterest (metOutcome m) ⌝ }
 {
     match m {
-        InterestMet::Refused(r) => no_interest(willow::refusal_number(r)),
+        InterestMet::Refused(r) => no_interest(refusals::refusal_number(r)),
         InterestMet::Nothing => no_interest(255),
         InterestMet::First(a) => given_interest(0, a),
         InterestMet::Second(a) => given_interest(1, a),

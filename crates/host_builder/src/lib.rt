@@ -51,7 +51,7 @@ fn start_answer(s: Started) -> BuilderAnswer
 {
     match s {
         Started::Refused(r) => BuilderAnswer {
-            status: willow::refusal_number(r),
+            status: refusals::refusal_number(r),
             state: no_state(),
         },
         Started::Ready(state) => BuilderAnswer { status: 0, state },
@@ -63,7 +63,7 @@ fn append_answer(a: Appended) -> BuilderAnswer
 {
     match a {
         Appended::Refused(r, state) => BuilderAnswer {
-            status: willow::refusal_number(r),
+            status: refusals::refusal_number(r),
             state,
         },
         Appended::Grown(state) => BuilderAnswer { status: 0, state },
@@ -75,7 +75,7 @@ fn build_answer(b: Built) -> BuiltAnswer
 {
     match b {
         Built::Refused(r, state) => BuiltAnswer {
-            status: willow::refusal_number(r),
+            status: refusals::refusal_number(r),
             value: 0,
             state,
         },

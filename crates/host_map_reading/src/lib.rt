@@ -67,7 +67,7 @@ fn rule_read(r: RuleRead) -> RuleAnswer
     ensures { λ a. ⌜ a ≡ givenRule (ruleOutcome r) ⌝ }
 {
     match r {
-        RuleRead::Refused(why) => no_rule(willow::refusal_number(why)),
+        RuleRead::Refused(why) => no_rule(refusals::refusal_number(why)),
         RuleRead::Nothing => no_rule(255),
         RuleRead::Is(area, value) => given_rule(area, value),
     }

@@ -42,7 +42,7 @@ fn met(m: SidesMet) -> SidesAnswer
     ensures { λ r. ⌜ r ≡ givenSides (metOutcome m) ⌝ }
 {
     match m {
-        SidesMet::Refused(r) => no_sides(willow::refusal_number(r)),
+        SidesMet::Refused(r) => no_sides(refusals::refusal_number(r)),
         SidesMet::Nothing => no_sides(255),
         SidesMet::Are(a, b) => SidesAnswer {
             status: 0,

@@ -95,7 +95,7 @@ fn met(m: Met) -> RangeAnswer
 {
     match m {
         Met::Refused(r) => RangeAnswer {
-            status: willow::refusal_number(r),
+            status: refusals::refusal_number(r),
             start: 0,
             end_kind: 0,
             end: 0,

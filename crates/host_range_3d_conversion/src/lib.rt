@@ -83,7 +83,7 @@ fn converted(c: Converted) -> ConvertedAnswer
     ensures { λ r. ⌜ r ≡ givenCounts (convertedOutcome c) ⌝ }
 {
     match c {
-        Converted::Refused(r) => no_range(willow::refusal_number(r)),
+        Converted::Refused(r) => no_range(refusals::refusal_number(r)),
         Converted::Is(m, n) => given_range(m, n),
     }
 }

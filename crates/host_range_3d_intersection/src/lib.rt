@@ -79,7 +79,7 @@ fn met(m: Range3dMet) -> Range3dAnswer
     ensures { λ r. ⌜ r ≡ givenSides (metOutcome m) ⌝ }
 {
     match m {
-        Range3dMet::Refused(r) => no_sides(willow::refusal_number(r)),
+        Range3dMet::Refused(r) => no_sides(refusals::refusal_number(r)),
         Range3dMet::Nothing => no_sides(255),
         Range3dMet::Are(x) => given_sides(x),
     }

@@ -34,7 +34,7 @@ fn offered(o: Offered) -> OfferAnswer
 {
     match o {
         Offered::Refused(why) => OfferAnswer {
-            status: willow::refusal_number(why),
+            status: refusals::refusal_number(why),
             answer: 0,
             pruned: 0,
         },

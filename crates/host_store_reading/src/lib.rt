@@ -46,7 +46,7 @@ fn numbers_read(n: NumbersRead) -> StoreAnswer
 {
     match n {
         NumbersRead::Refused(why) => StoreAnswer {
-            status: willow::refusal_number(why),
+            status: refusals::refusal_number(why),
             mcl: 0,
             mcc: 0,
             mpl: 0,
@@ -106,7 +106,7 @@ fn entry_read(e: EntryRead) -> EntryAnswer
     let count = e.count;
     let head = e.head;
     match count {
-        Counted::Refused(why) => no_entry(willow::refusal_number(why)),
+        Counted::Refused(why) => no_entry(refusals::refusal_number(why)),
         Counted::Nothing => no_entry(255),
         Counted::Count(n) => given_head(n, head),
     }

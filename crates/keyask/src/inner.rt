@@ -4,10 +4,10 @@
 use keyform::MAX_LINE;
 use keyread::inner::Line;
 use keyread::inner::Slices;
+use refusals::MAX_MCC;
+use refusals::MAX_MPL;
 use willow::Counted;
 use willow::Limits;
-use willow::MAX_MCC;
-use willow::MAX_MPL;
 use willow::Refusal;
 ghost use mathlib.Core.Path.{_≡_};
 ghost use Rattle.willow.specs.declared.Limits as theory;

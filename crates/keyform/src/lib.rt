@@ -1,8 +1,8 @@
 // The form of key lines: definitions and theorems (specs/), and the bounds that the functions of the crates above go by. What holds
 // a constant against its definition is the proof of each function that tests it or makes a buffer of it.
 
-use willow::MAX_MCC;
-use willow::MAX_MPL;
+use refusals::MAX_MCC;
+use refusals::MAX_MPL;
 
 // The most bytes in a line (`maxLine`), and in an answer without its newline (`maxAnswer`) and with it.
 pub const MAX_LINE: usize = 16384;

@@ -91,7 +91,7 @@ pub fn put_refused(r: Refusal, out: &mut [u8], to: usize) -> usize
     ensures { λ n. ⌜ n ≡ to + length (refusedText r) ⌝ }
     ensures { λ _. ⌜ now (out .exit) ≡ overwrite (now (out .entry)) to (refusedText r) ⌝ }
 {
-    let n = willow::refusal_number(r) as u8;
+    let n = refusals::refusal_number(r) as u8;
     number::put(out, to, b"refused ");
     let at = to + 8;
     if n < 10 {

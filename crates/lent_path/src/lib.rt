@@ -23,7 +23,7 @@ fn is_lent(limits: Limits, b: &[u8], count: u64) -> bool
 pub fn test(limits: Limits, b: &[u8], count: u64) -> Tested
     ensures { λ r. ⌜ testedRefusal r ≡ pathRefusal limits (now (b .entry)) count ⌝ }
 {
-    if willow::limits_accepted(limits) {
+    if refusals::limits_accepted(limits) {
         if is_lent(limits, b, count) {
             return Tested::Fine;
         }
@@ -36,7 +36,7 @@ pub fn test(limits: Limits, b: &[u8], count: u64) -> Tested
 pub fn test_two(limits: Limits, a: &[u8], ca: u64, b: &[u8], cb: u64) -> Tested
     ensures { λ r. ⌜ testedRefusal r ≡ pathsRefusal limits (now (a .entry)) ca (now (b .entry)) cb ⌝ }
 {
-    if willow::limits_accepted(limits) {
+    if refusals::limits_accepted(limits) {
         if is_lent(limits, a, ca) {
             if is_lent(limits, b, cb) {
                 return Tested::Fine;
@@ -51,7 +51,7 @@ pub fn test_two(limits: Limits, a: &[u8], ca: u64, b: &[u8], cb: u64) -> Tested
 pub fn test_component(limits: Limits, c: &[u8]) -> Tested
     ensures { λ r. ⌜ testedRefusal r ≡ componentRefusal limits (now (c .entry)) ⌝ }
 {
-    if willow::limits_accepted(limits) {
+    if refusals::limits_accepted(limits) {
         if c.len() as u64 <= limits.mcl {
             return Tested::Fine;
         }

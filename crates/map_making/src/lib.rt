@@ -14,8 +14,8 @@ pub fn fresh(limits: Limits, capacity: u64, out: &mut [u8]) -> Counted
     ensures { λ r. ⌜ countedOutcome r ≡ writtenLength (freshMap limits capacity) (now (out .entry)) ⌝ }
     ensures { λ _. ⌜ now (out .exit) ≡ writtenBuffer (freshMap limits capacity) (now (out .entry)) ⌝ }
 {
-    if willow::limits_accepted(limits) {
-        if willow::capacity_accepted(capacity) {
+    if refusals::limits_accepted(limits) {
+        if refusals::capacity_accepted(capacity) {
             return inner::make(limits, capacity, out);
         }
     }

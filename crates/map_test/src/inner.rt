@@ -98,8 +98,8 @@ fn rows_fit(limits: Limits, s: &[u8], cell: usize, capacity: usize, n: usize) ->
 fn sizes_fit(limits: Limits, capacity: u64, n: u64) -> bool
     ensures { λ r. ⌜ r ≡ sizesFit (record { limits = limits; capacity = capacity }) n ⌝ }
 {
-    if willow::limits_accepted(limits) {
-        if willow::capacity_accepted(capacity) {
+    if refusals::limits_accepted(limits) {
+        if refusals::capacity_accepted(capacity) {
             return n <= capacity;
         }
     }

@@ -15,7 +15,7 @@ ghost use Rattle.path_bounds.specs.LentRanges.{endPaths, rangePaths};
 fn test_limits(limits: Limits) -> Tested
     ensures { λ r. ⌜ testedRefusal r ≡ limitsRefusal limits ⌝ }
 {
-    if willow::limits_accepted(limits) {
+    if refusals::limits_accepted(limits) {
         return Tested::Fine;
     }
     Tested::Refused(Refusal::BadLimits)

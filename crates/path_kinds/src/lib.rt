@@ -42,7 +42,7 @@ fn read_kind(kind: u64, count: u64) -> EndRead
 pub fn read_end(limits: Limits, kind: u64, count: u64) -> EndRead
     ensures { λ r. ⌜ endRead r ≡ onKinds limits (pathEndFrom kind count) value ⌝ }
 {
-    if willow::limits_accepted(limits) {
+    if refusals::limits_accepted(limits) {
         return read_kind(kind, count);
     }
     EndRead::Refused(Refusal::BadLimits)

@@ -1,7 +1,7 @@
 // The store's sheet: its layout, and what its test means, are in specs/. The code that reads and writes it stands in the crates that
 // use this one, and finds every number by these names.
 
-use willow::MAX_MCC;
+use refusals::MAX_MCC;
 
 // The numbers that stand before the heads, in bytes, and the bytes of a head.
 pub const STORE_FRONT: usize = 64;

@@ -15,8 +15,8 @@ pub fn fresh(limits: Limits, capacity: u64, namespace: u64, out: &mut [u8]) -> C
     ensures { λ r. ⌜ countedOutcome r ≡ writtenLength (freshStore (record { limits = limits; capacity = capacity; namespace = namespace })) (now (out .entry)) ⌝ }
     ensures { λ _. ⌜ now (out .exit) ≡ writtenBuffer (freshStore (record { limits = limits; capacity = capacity; namespace = namespace })) (now (out .entry)) ⌝ }
 {
-    if willow::limits_accepted(limits) {
-        if willow::capacity_accepted(capacity) {
+    if refusals::limits_accepted(limits) {
+        if refusals::capacity_accepted(capacity) {
             return inner::make(limits, capacity, namespace, out);
         }
     }

@@ -47,8 +47,8 @@ fn rows_fit(s: &[u8], limits: Limits, capacity: usize, n: usize, held: u64) -> b
 fn sizes_fit(limits: Limits, capacity: u64, n: u64, held: u64, let_go: u64) -> bool
     ensures { λ r. ⌜ r ≡ sizesFit (sizesOf limits capacity) n held «let_go» ⌝ }
 {
-    if willow::limits_accepted(limits) {
-        if willow::capacity_accepted(capacity) {
+    if refusals::limits_accepted(limits) {
+        if refusals::capacity_accepted(capacity) {
             if n <= capacity {
                 return let_go <= u64::MAX - held;
             }

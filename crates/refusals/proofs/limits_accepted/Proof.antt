@@ -2,9 +2,9 @@
 use mathlib.Core.Path.{sym}
 use mathlib.Core.Bool.{_&&_}
 use lib.Dec.{leb}
-use Rattle.willow.proofs.limits_accepted.Statement.{statement}
-use Rattle.willow.proofs.limits_accepted.Tie as tie
+use Rattle.refusals.proofs.limits_accepted.Statement.{statement}
+use Rattle.refusals.proofs.limits_accepted.Tie as tie
 use Rattle.willow.specs.Limits.{acceptedLimits, maxMCC, maxMPL}
 use borrow.Author.Tests.{le-leb, lt-leb}
 
 returns : tie.Need-returns

@@ -1,7 +1,7 @@
 -- The test is the definition.
-use Rattle.willow.proofs.capacity_accepted.Statement.{statement}
-use Rattle.willow.proofs.capacity_accepted.Tie as tie
+use Rattle.refusals.proofs.capacity_accepted.Statement.{statement}
+use Rattle.refusals.proofs.capacity_accepted.Tie as tie
 use Rattle.willow.specs.Limits.{acceptedCapacity}
 use mathlib.Core.Path.{refl}
 
 returns : tie.Need-returns
