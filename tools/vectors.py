@@ -1,11 +1,9 @@
 """Cases for the exported calls, and the answers that they must get.
 
-    python3 tools/vectors.py
-
-writes stdin and stdout of crates/vectors (paths read, related, written), of crates/vectors_making (paths made) and of
-crates/vectors_builder (runs of the builder, and the greatest path). The answers are computed here, from document 01 and from the
-comments of the calls; nothing of the core is read or run. The random cases have a fixed seed, so that the files come out the
-same. In front of them stands the sample of the Rust original's answers in rust/sample, with which the model has to agree.
+Three parts of what tools/replay.py writes: `reading` (paths read, related, written), `making` (paths made) and `building` (runs of
+the builder, and the greatest path). The answers are computed here, from document 01 and from the comments of the calls; nothing of
+the core is read or run. The random cases have a fixed seed, so that the files come out the same. In front of them stands the
+sample of the Rust original's answers in rust/sample, with which the model has to agree.
 """
 import functools
 import itertools
@@ -357,7 +355,7 @@ def of_declared(state):
 
 
 class Host:
-    """Keeps a buffer and a state, as crates/vectors_builder does. A call gives the numbers that are printed before the buffer."""
+    """Keeps a buffer and a state, as part `building` of crates/replay does. A call gives the numbers that are printed before the buffer."""
 
     forms = {"room": "r", "buffer": "b", "state": "nnnnnn", "new": "nnnnn", "new_from_prefix": "nnnnnbnn", "append_component": "b"}
     forms.update({"build": "", "new_max": "nnn"})
@@ -1034,41 +1032,31 @@ def random_runs(count):
             yield line
 
 
-def sample(program):
-    """The fixed sample of the Rust original's answers, where rust/sample has one for the program: cases and answers, line by line."""
+def sample(name):
+    """The fixed sample of the Rust original's answers, where rust/sample has one for the part: cases and answers, line by line."""
     folder = os.path.join(os.path.dirname(os.path.abspath(__file__)), "..", "rust", "sample")
-    if not os.path.exists(os.path.join(folder, program + ".in")):
+    if not os.path.exists(os.path.join(folder, name + ".in")):
         return [], []
-    both = [open(os.path.join(folder, program + end)).read().splitlines() for end in (".in", ".out")]
-    assert len(both[0]) == len(both[1]), program
+    both = [open(os.path.join(folder, name + end)).read().splitlines() for end in (".in", ".out")]
+    assert len(both[0]) == len(both[1]), name
     return both
 
 
-def store(program, answer_to, sections):
-    here = os.path.join(os.path.dirname(os.path.abspath(__file__)), "..", "crates", program)
-    cases, replies = sample(program)
+def part(name, answer_to, sections):
+    """A part of the stored cases: its name, its lines, and the answers to them."""
+    cases, replies = sample(name)
     # The model has to say what the Rust says.
-    assert [answer_to(case) for case in cases] == replies, program
+    assert [answer_to(case) for case in cases] == replies, name
     before = ["# answers of the Rust original (rust/README.md says how the sample was made)"] + cases if cases else []
     lines = before + [line for section in sections for line in section]
-    answers = [a for a in map(answer_to, lines) if a is not None]
-    # The last line has no newline behind it.
-    with open(os.path.join(here, "stdin"), "w", newline="") as f:
-        f.write("\n".join(lines))
-    with open(os.path.join(here, "stdout"), "w", newline="") as f:
-        f.writelines(a + "\n" for a in answers)
-    print(f"{program}: {len(lines)} lines, {len(answers)} answers")
+    return name, lines, [a for a in map(answer_to, lines) if a is not None]
 
 
-def main():
+def parts():
     all_bytes_agree((1, 2, 2))
     all_bytes_agree((2, 1, 2))
-    store("vectors", lambda line: answer(line, READING), [orders(), counts(), limits(), malformed(), refusals(), written(), forms(), randoms(210)])
+    yield part("reading", lambda line: answer(line, READING), [orders(), counts(), limits(), malformed(), refusals(), written(), forms(), randoms(210)])
     making = [stated(), bounds(), lengths(), sizes(), rooms(), counted_below(), broken(), leasts(), made_forms(), randoms_made(300)]
-    store("vectors_making", lambda line: answer(line, MAKING), making)
+    yield part("making", lambda line: answer(line, MAKING), making)
     built = [greatest_paths(), whole_runs(), starts(), calls_at_their_edges(), damaged(), host_forms(), random_runs(60)]
-    store("vectors_builder", Host().answer, built)
-
-
-if __name__ == "__main__":
-    main()
+    yield part("building", Host().answer, built)

@@ -1,9 +1,7 @@
 """Cases for the exported calls on ranges, entries, areas, areas of interest and 3d ranges, and the answers that they must get.
 
-    python3 tools/vectors_grouping.py
-
-writes stdin and stdout of crates/vectors_ranges and of crates/vectors_areas. The answers are computed here, from document 01 and
-from Willow's definitions; nothing of the core is read or run. The packed form, the buffers of a line and the next greater path are
+The parts `ranges` and `areas` of what tools/replay.py writes. The answers are computed here, from document 01 and from Willow's
+definitions; nothing of the core is read or run. The packed form, the buffers of a line and the next greater path are
 those of tools/vectors.py, which looks at all paths for the last one. What is answered by comparing bounds is held against plain
 sets of the values, paths or triplets that a case can tell apart. The random cases have a fixed seed.
 """
@@ -11,7 +9,7 @@ import itertools
 import random
 from collections import namedtuple
 
-from vectors import NONE, TOP, Refused, Unreadable, accept, counted, least, lent, near, packed, random_buffer, random_path, raw, read, shown, store, valid_paths
+from vectors import NONE, TOP, Refused, Unreadable, accept, counted, least, lent, near, packed, part, random_buffer, random_path, raw, read, shown, valid_paths
 
 # An open end is None, and so are the subspaces of an area that has any. A path is a tuple of byte strings: Python compares these
 # as the Data Model does, unsigned, a proper prefix smaller.
@@ -713,12 +711,8 @@ def randoms(calls, count, seed):
         yield random_case(r, calls, list(calls)[i % len(calls)])
 
 
-def main():
+def parts():
     ranges = [stated_ranges(), number_ranges(), path_ranges(), entries(), refused(RANGES), range_forms(), randoms(RANGES, 315, 4)]
-    store("vectors_ranges", lambda line: answer(RANGES, line), ranges)
+    yield part("ranges", lambda line: answer(RANGES, line), ranges)
     areas_ = [conversions(), areas(), ranges_3d(), refused(AREAS), area_forms(), randoms(AREAS, 336, 5)]
-    store("vectors_areas", lambda line: answer(AREAS, line), areas_)
-
-
-if __name__ == "__main__":
-    main()
+    yield part("areas", lambda line: answer(AREAS, line), areas_)

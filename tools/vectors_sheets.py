@@ -1,13 +1,11 @@
 """Cases for the exported calls on area maps and on stores, and the answers that they must get.
 
-    python3 tools/vectors_sheets.py
-
-writes stdin and stdout of crates/vectors_map and of crates/vectors_store, and
+The parts `maps` and `stores` of what tools/replay.py writes; and
 
     python3 tools/vectors_sheets.py map 100000 7 FOLDER
     python3 tools/vectors_sheets.py store 100000 7 FOLDER
 
-at least 100,000 random lines for one of the programs, with seed 7, and their answers to FOLDER/stdin and FOLDER/stdout. The answers
+writes at least 100,000 random lines for one of the parts, with seed 7, and their answers to FOLDER/stdin and FOLDER/stdout. The answers
 are computed here, from document 01; nothing of the core is read or run. A sheet is laid out by putting its parts one behind the
 other, and tested by reading it and laying out again what was read. What a store holds and has let go is computed from its whole
 history each time, in the words of document 01. Packed paths, the buffers of a line and the intersection of areas are those of
@@ -18,7 +16,7 @@ import sys
 from collections import namedtuple
 
 from vectors import NONE, TOP, Refused, Unreadable, accept, lent, numbers, packed, random_buffer, raw, shown, smallest
-from vectors import near as near_path, random_path, store as store_cases
+from vectors import near as near_path, part, random_path
 from vectors_grouping import Area, Entry, Range, area_intersection, digest, end_shown, place, prunes, read_argument, words
 
 MOST_N, KEPT_BYTES = 4096, 4096
@@ -1028,17 +1026,18 @@ def random_stores(r, play):
     yield from random_sheet(r, play) if r.random() < 0.4 else random_store(r, play)
 
 
-def main():
+def parts():
     maps = [fresh_sheets("map", map_size), filled_maps(), inserts(), listings(), damaged_maps(), map_forms(), randoms(MapHost(), random_map, 700, 6)]
-    store_cases("vectors_map", MapHost().answer, maps)
+    yield part("maps", MapHost().answer, maps)
     stores = [stated_stores(), fresh_sheets("store", store_size, "7"), two_offers(), prunings(), full_totals(), refused_offers(), namespaces(), small_stores(), damaged_stores(), store_forms()]
-    store_cases("vectors_store", StoreHost().answer, stores + [randoms(StoreHost(), random_stores, 2800, 7)])
+    yield part("stores", StoreHost().answer, stores + [randoms(StoreHost(), random_stores, 2800, 7)])
 
 
 def main_random(name, lines, seed, folder):
     host, one = {"map": (MapHost, random_map), "store": (StoreHost, random_stores)}[name]
     play = host()
     with open(f"{folder}/stdin", "w", newline="") as stdin, open(f"{folder}/stdout", "w", newline="") as stdout:
+        stdin.write(f"part {name}s\n")
         for line in randoms(host(), one, int(lines), int(seed)):
             stdin.write(line + "\n")
             answer = play.answer(line)
@@ -1047,4 +1046,4 @@ def main_random(name, lines, seed, folder):
 
 
 if __name__ == "__main__":
-    main_random(*sys.argv[1:]) if sys.argv[1:] else main()
+    main_random(*sys.argv[1:])

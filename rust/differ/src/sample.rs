@@ -110,10 +110,10 @@ fn entry(e: &Entry) -> String {
 /// The samples by the name of the program that replays them.
 #[derive(Default)]
 struct Sample {
-    vectors: Lines,
-    vectors_making: Lines,
-    vectors_ranges: Lines,
-    vectors_areas: Lines,
+    reading: Lines,
+    making: Lines,
+    ranges: Lines,
+    areas: Lines,
 }
 
 impl Sample {
@@ -122,7 +122,7 @@ impl Sample {
             return;
         };
         let (one, two) = (lent(a), format!("{} {}", lent(a), lent(b)));
-        let lines = &mut self.vectors;
+        let lines = &mut self.reading;
         lines.number(format!("component_count {at} {one}"), x.component_count());
         lines.number(format!("is_empty {at} {one}"), x.is_empty());
         lines.number(format!("length {at} {one}"), x.path_length());
@@ -135,7 +135,7 @@ impl Sample {
         let common = x.longest_common_prefix(&*y).component_count();
         lines.number(format!("longest_common_prefix {at} {two}"), common);
 
-        let (lines, limits) = (&mut self.vectors_making, set.limits());
+        let (lines, limits) = (&mut self.making, set.limits());
         let room = limits.longest_packed();
         let next = x.greater_but_not_prefixed();
         lines.made(format!("greater_but_not_prefixed {at} {one}"), &next, room);
@@ -152,12 +152,12 @@ impl Sample {
             let lengths: Vec<String> = parts.iter().map(|p| p.len().to_string()).collect();
             let case = format!("from_slices {at} n{} x{}", lengths.join("/"), hex(&bytes));
             let room = set.limits().longest_packed();
-            self.vectors_making.made(case, &made, room);
+            self.making.made(case, &made, room);
         }
     }
 
     fn ranges(&mut self, set: &dyn Groups, (p, q): (&PathRange, &PathRange), a: &Lent, at: &str) {
-        let lines = &mut self.vectors_ranges;
+        let lines = &mut self.ranges;
         let of_paths = set.path_ranges(p, q);
         let two = format!("{at} {} {}", path_range(p), path_range(q));
         lines.number(
@@ -170,7 +170,7 @@ impl Sample {
     }
 
     fn numbers(&mut self, a: Range<u64>, b: Range<u64>) {
-        let lines = &mut self.vectors_ranges;
+        let lines = &mut self.ranges;
         let two = format!("{} {}", range(a), range(b));
         let said = their_groups::number_ranges(a, b);
         lines.number(format!("range_includes_range {two}"), said.includes);
@@ -179,7 +179,7 @@ impl Sample {
     }
 
     fn entries(&mut self, set: &dyn Groups, e: &Entry, f: &Entry, at: &str) {
-        let lines = &mut self.vectors_ranges;
+        let lines = &mut self.ranges;
         let said = set.entries(e, f);
         let two = format!("{at} {} {}", entry(e), entry(f));
         lines.number(format!("entry_prunes {two}"), said.prunes);
@@ -194,7 +194,7 @@ impl Sample {
     }
 
     fn areas(&mut self, set: &dyn Groups, (x, y): (&Area, &Area), t: &Triplet, at: &str) {
-        let lines = &mut self.vectors_areas;
+        let lines = &mut self.areas;
         let said = set.areas(x, y);
         let two = format!("{at} {} {}", area(x), area(y));
         lines.number(format!("area_includes_area {two}"), said.includes);
@@ -206,7 +206,7 @@ impl Sample {
     }
 
     fn ranges_3d(&mut self, set: &dyn Groups, (r, s): (&Range3d, &Range3d), t: &Triplet, at: &str) {
-        let lines = &mut self.vectors_areas;
+        let lines = &mut self.areas;
         let (includes, _, _) = set.ranges_3d(r, s);
         let two = format!("{at} {} {}", range_3d(r), range_3d(s));
         lines.number(format!("range_3d_includes_range {two}"), includes);
@@ -246,7 +246,7 @@ impl Sample {
     }
 }
 
-/// Writes the sample: for each program that replays cases a file `NAME.in` and a file `NAME.out`.
+/// Writes the sample: for each part of the replay that has one a file `PART.in` and a file `PART.out`.
 pub fn write(folder: &Path, sets: &[&dyn Groups], random: &mut Random) -> io::Result<()> {
     let mut sample = Sample::default();
     for set in sets {
@@ -256,10 +256,10 @@ pub fn write(folder: &Path, sets: &[&dyn Groups], random: &mut Random) -> io::Re
     }
     fs::create_dir_all(folder)?;
     for (name, lines) in [
-        ("vectors", &sample.vectors),
-        ("vectors_making", &sample.vectors_making),
-        ("vectors_ranges", &sample.vectors_ranges),
-        ("vectors_areas", &sample.vectors_areas),
+        ("reading", &sample.reading),
+        ("making", &sample.making),
+        ("ranges", &sample.ranges),
+        ("areas", &sample.areas),
     ] {
         fs::write(folder.join(format!("{name}.in")), &lines.cases)?;
         fs::write(folder.join(format!("{name}.out")), &lines.answers)?;
