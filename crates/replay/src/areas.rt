@@ -453,26 +453,32 @@ fn ask_ranges(n: Case, b1: &[u8], b2: &[u8], b3: &[u8], b4: &[u8]) -> Answer {
     }
 }
 
-fn replay_converted(n: Case, b1: &[u8], out: &mut [u8]) {
+fn convert(n: Case, b1: &[u8], out: &mut [u8]) {
     let a = range_3d_from_area(n, b1, out);
     print_converted(a, out);
 }
 
+fn replay_converted(n: Case, b1: &[u8]) {
+    let mut out = [238u8; 256];
+    let m = forms::room(n, &out);
+    convert(n, b1, &mut out[0..m]);
+}
+
 // The calls that answer with an area or a range.
-fn replay_area(n: Case, b1: &[u8], b2: &[u8], b3: &[u8], b4: &[u8], out: &mut [u8]) {
+fn replay_area(n: Case, b1: &[u8], b2: &[u8], b3: &[u8], b4: &[u8]) {
     let call = n.call;
     match call {
         1 => print_area(area_intersection(n, b1, b2)),
         2 => print_interest(area_of_interest_intersection(n, b1, b2)),
         3 => print_range(range_3d_intersection(n, b1, b2, b3, b4)),
-        _ => replay_converted(n, b1, out),
+        _ => replay_converted(n, b1),
     }
 }
 
 // Makes the call, and prints its answer.
-pub(crate) fn replay(n: Case, b1: &[u8], b2: &[u8], b3: &[u8], b4: &[u8], out: &mut [u8]) {
+pub(crate) fn replay(n: Case, b1: &[u8], b2: &[u8], b3: &[u8], b4: &[u8]) {
     if n.call < 10 {
-        replay_area(n, b1, b2, b3, b4, out);
+        replay_area(n, b1, b2, b3, b4);
         return;
     }
     if n.call < 20 {

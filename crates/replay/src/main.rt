@@ -10,6 +10,7 @@
 
 mod areas;
 mod building;
+mod each;
 mod making;
 mod maps;
 mod parts;

@@ -38,8 +38,14 @@ fn make(n: Case, b1: &[u8], b2: &[u8], b3: &[u8], out: &mut [u8]) -> Answer {
     }
 }
 
-// Makes the call, and prints its answer.
-pub(crate) fn replay(n: Case, b1: &[u8], b2: &[u8], b3: &[u8], out: &mut [u8]) {
+fn print_made(n: Case, b1: &[u8], b2: &[u8], b3: &[u8], out: &mut [u8]) {
     let a = make(n, b1, b2, b3, out);
     answers::print_written(a, out);
+}
+
+// Makes the call, and prints its answer.
+pub(crate) fn replay(n: Case, b1: &[u8], b2: &[u8], b3: &[u8]) {
+    let mut out = [238u8; 256];
+    let m = forms::room(n, &out);
+    print_made(n, b1, b2, b3, &mut out[0..m]);
 }

@@ -37,28 +37,48 @@ fn read(part: u64, text: &[u8], array: &mut [u8; 4096]) -> Case {
 }
 
 // A case of a part that keeps nothing.
-fn replay_apart(part: u64, n: Case, b1: &[u8], b2: &[u8], b3: &[u8], b4: &[u8], out: &mut [u8]) {
+fn replay_apart(part: u64, n: Case, array: &[u8; 4096]) {
+    let b1 = pieces::part(array, 0, n.e1);
+    let b2 = pieces::part(array, n.e1, n.e2);
+    let b3 = pieces::part(array, n.e2, n.e3);
+    let b4 = pieces::part(array, n.e3, n.e4);
     match part {
-        0 => reading::replay(n, b1, b2, out),
-        1 => making::replay(n, b1, b2, b3, out),
+        0 => reading::replay(n, b1, b2),
+        1 => making::replay(n, b1, b2, b3),
         3 => ranges::replay(n, b1, b2, b3, b4),
-        _ => areas::replay(n, b1, b2, b3, b4, out),
+        _ => areas::replay(n, b1, b2, b3, b4),
     }
 }
 
-// A case with its buffers: what is kept then.
-fn replay_case(n: Case, array: &[u8; 4096], out: &mut [u8], space: &mut [u8], k: Kept) -> Kept {
+// A call with the sheet that is kept.
+fn call_on_sheet(part: u64, n: Case, b1: &[u8], b2: &[u8], sheet: &mut [u8]) {
+    if part == 5 {
+        maps::replay(n, b1, sheet);
+        return;
+    }
+    stores::replay(n, b1, b2, sheet);
+}
+
+// A line of a part that keeps a sheet: what is kept then.
+fn replay_on_sheet(n: Case, array: &[u8; 4096], space: &mut [u8], k: Kept) -> Kept {
     let b1 = pieces::part(array, 0, n.e1);
+    if n.call < 10 {
+        return kept::keep(n, b1, space, k);
+    }
     let b2 = pieces::part(array, n.e1, n.e2);
+    let m = kept::kept_length(k, space);
+    call_on_sheet(k.part, n, b1, b2, &mut space[0..m]);
+    k
+}
+
+// A case, read: what is kept then.
+fn replay_case(n: Case, array: &[u8; 4096], space: &mut [u8], k: Kept) -> Kept {
     let part = k.part;
     match part {
-        2 => building::replay(n, b1, space, k),
-        5 => maps::replay(n, b1, space, out, k),
-        6 => stores::replay(n, b1, b2, space, out, k),
+        2 => building::replay(n, pieces::part(array, 0, n.e1), space, k),
+        5 | 6 => replay_on_sheet(n, array, space, k),
         _ => {
-            let b3 = pieces::part(array, n.e2, n.e3);
-            let b4 = pieces::part(array, n.e3, n.e4);
-            replay_apart(part, n, b1, b2, b3, b4, out);
+            replay_apart(part, n, array);
             k
         }
     }
@@ -73,9 +93,7 @@ fn replay_text(text: &[u8], space: &mut [u8], k: Kept) -> Kept {
     if !n.ok {
         return kept::unreadable(k);
     }
-    let mut out = [238u8; 256];
-    let m = forms::room(n, &out);
-    replay_case(n, &array, &mut out[0..m], space, k)
+    replay_case(n, &array, space, k)
 }
 
 // Replays a line, if it is one, and starts an empty one.

@@ -71,8 +71,19 @@ fn write(n: Case, b1: &[u8], b2: &[u8], out: &mut [u8]) -> Answer {
     }
 }
 
+fn print_written(n: Case, b1: &[u8], b2: &[u8], out: &mut [u8]) {
+    let a = write(n, b1, b2, out);
+    answers::print_written(a, out);
+}
+
+fn replay_writing(n: Case, b1: &[u8], b2: &[u8]) {
+    let mut out = [238u8; 256];
+    let m = forms::room(n, &out);
+    print_written(n, b1, b2, &mut out[0..m]);
+}
+
 // Makes the call, and prints its answer.
-pub(crate) fn replay(n: Case, b1: &[u8], b2: &[u8], out: &mut [u8]) {
+pub(crate) fn replay(n: Case, b1: &[u8], b2: &[u8]) {
     if n.call < 10 {
         answers::print_status(test(n, b1));
         return;
@@ -81,6 +92,5 @@ pub(crate) fn replay(n: Case, b1: &[u8], b2: &[u8], out: &mut [u8]) {
         answers::print_answer(ask(n, b1, b2));
         return;
     }
-    let a = write(n, b1, b2, out);
-    answers::print_written(a, out);
+    replay_writing(n, b1, b2);
 }

@@ -3,14 +3,14 @@ use Prim.Native.Nat.{_≤_, _-_}
 use mathlib.Core.Path.{_≡_}
 use borrow.Author.Needs.{needs}
 use lib.ListN.{length}
-use Rattle.replay.proofs.maps.print_tests.Statement.{statement}
-use Rattle.replay.proofs.maps.print_tests.Tie as tie
+use Rattle.replay.proofs.each.print_tests.Statement.{statement}
+use Rattle.replay.proofs.each.print_tests.Tie as tie
 
 abbrev Inv-loop : tie.InvT-loop
-Inv-loop sheet₀ v i₀ sheet i = (i ≤ length sheet) × (length sheet ≡ length sheet₀)
+Inv-loop maps sheet₀ v i₀ sheet i = (i ≤ length sheet) × (length sheet ≡ length sheet₀)
 
 abbrev μ-loop : tie.MeasureT-loop
-μ-loop sheet₀ v i₀ sheet i = length sheet₀ - i
+μ-loop maps sheet₀ v i₀ sheet i = length sheet₀ - i
 
 loop-holds : tie.Need-loop-holds Inv-loop μ-loop
 loop-holds c = search needs
@@ -18,8 +18,8 @@ loop-holds c = search needs
 change-requires : tie.Need-change-requires Inv-loop μ-loop
 change-requires c κs = search needs
 
-wotskrale-map-test-requires : tie.Need-wotskrale-map-test-requires Inv-loop μ-loop
-wotskrale-map-test-requires c κs = search needs
+test-requires : tie.Need-test-requires Inv-loop μ-loop
+test-requires c κs = search needs
 
 print-digit-requires : tie.Need-print-digit-requires Inv-loop μ-loop
 print-digit-requires c κs = search needs
@@ -53,7 +53,7 @@ print-tests-spec =
     μ-loop
     loop-holds
     change-requires
-    wotskrale-map-test-requires
+    test-requires
     print-digit-requires
     change-requires-2
     add-i
