@@ -355,7 +355,7 @@ def of_declared(state):
 
 
 class Host:
-    """Keeps a buffer and a state, as part `building` of crates/replay does. A call gives the numbers that are printed before the buffer."""
+    """Keeps a buffer and a state, as part `building` of replay_paths does. A call gives the numbers that are printed before the buffer."""
 
     forms = {"room": "r", "buffer": "b", "state": "nnnnnn", "new": "nnnnn", "new_from_prefix": "nnnnnbnn", "append_component": "b"}
     forms.update({"build": "", "new_max": "nnn"})

@@ -1,7 +1,6 @@
-// The parts that the replaying crates share. They are not open to a caller.
+// The parts that the replaying programs share. They are not open to a caller.
 
 pub mod answers;
-pub mod buffers;
 pub mod forms;
+pub mod input;
 pub mod kept;
-pub mod pieces;

@@ -107,7 +107,7 @@ fn entry(e: &Entry) -> String {
     format!("{namespace} {subspace} {path} {}", age(e))
 }
 
-/// The samples by the name of the program that replays them.
+/// The samples by the name of the part that replays them.
 #[derive(Default)]
 struct Sample {
     reading: Lines,

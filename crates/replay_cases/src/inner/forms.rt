@@ -1,9 +1,9 @@
 // A case, read once: its call by number, its numbers by the piece that they stand in, and its buffers by their order.
 
-use crate::inner::buffers;
-use crate::inner::pieces;
-use crate::inner::pieces::Number;
 use convention::Answer;
+use replay_text::inner::buffers;
+use replay_text::inner::pieces;
+use replay_text::inner::pieces::Number;
 ghost use Prim.Native.Nat.{_≤_};
 ghost use lib.ListN.{length};
 

@@ -1,4 +1,4 @@
-// What the program keeps from line to line, for the parts whose calls are made with a buffer that the host keeps.
+// What a program keeps from line to line, for the parts whose calls are made with a buffer that the host keeps.
 //
 //     room L            the buffer is L bytes ee from now on
 //     sheet B           the buffer is these bytes
@@ -11,16 +11,13 @@
 
 use crate::inner::answers;
 use crate::inner::forms::Case;
-use crate::inner::pieces;
+use replay_text::inner::pieces;
 ghost use Prim.Native.Nat.{_≤_};
 ghost use lib.ListN.{length};
 
-// The part that is replayed; whether the input has ended; how many bytes of the line have been read; how long the buffer is; and the
-// state of a builder.
+// The part that is replayed; how long the buffer is; and the state of a builder.
 pub struct Kept {
     pub part: u64,
-    pub ended: bool,
-    pub line: usize,
     pub len: usize,
     pub mcl: u64,
     pub mcc: u64,
@@ -30,12 +27,13 @@ pub struct Kept {
     pub appended: u64,
 }
 
+// The part before the first line that names one: no part of a program has this number.
+pub const NO_PART: u64 = u64::MAX;
+
 // An empty buffer, and a state of zeros.
 pub fn nothing(part: u64) -> Kept {
     Kept {
         part,
-        ended: false,
-        line: 0,
         len: 0,
         mcl: 0,
         mcc: 0,
@@ -50,6 +48,20 @@ pub fn nothing(part: u64) -> Kept {
 pub fn unreadable(k: Kept) -> Kept {
     answers::print_unreadable();
     k
+}
+
+// Whether a line is one that starts a part.
+pub fn starts_part(text: &[u8]) -> bool {
+    pieces::is(pieces::piece(text, b' ', 0), b"part")
+}
+
+// What is kept where a part of a program starts: its number, and nothing of the part before.
+pub fn start_part(text: &[u8], parts: &[u8], k: Kept) -> Kept {
+    let place = pieces::find(pieces::piece(text, b' ', 1), parts);
+    if !place.ok {
+        return unreadable(k);
+    }
+    nothing(place.value)
 }
 
 // How long the buffer is. It is never longer than what holds it; the test is there so that this is seen.
