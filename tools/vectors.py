@@ -324,14 +324,14 @@ def partial(count, path):
 
 def held(state, buffer):
     """The components in a buffer that is long enough, or None where it disagrees with the counts."""
-    mcl, mcc, mpl, length, count, appended = state
-    if number_at(buffer, 0) != count or appended > count or appended > mcc:
+    mcl, _, _, length, count, appended = state
+    if number_at(buffer, 0) != count or appended > count:
         return None
     ends = [number_at(buffer, 8 + 8 * i) for i in range(count)]
     if any(ends[appended:]):
         return None
     parts = list(zip([0] + ends, ends[:appended]))
-    if any(not 0 <= end - start <= mcl for start, end in parts) or (parts and parts[-1][1] > min(length, mpl)):
+    if any(not 0 <= end - start <= mcl for start, end in parts) or (parts and parts[-1][1] > length):
         return None
     data = buffer[8 + 8 * count :]
     return [data[start:end] for start, end in parts]
@@ -416,8 +416,8 @@ class Host:
     def build(self):
         *limits, length, count, appended = self.state
         path, tests = self.look()
-        # Where the buffer cannot be read, bytes are certainly missing only if the components appended, all of MCL bytes, have too few.
-        missing = appended <= count and appended * limits[0] < length if path is None else sum(map(len, path)) < length
+        # Where the buffer cannot be read, bytes are certainly missing only if nothing is appended.
+        missing = length > 0 and appended == 0 if path is None else sum(map(len, path)) < length
         status = smallest(*tests, (12, appended < count or missing))
         if status:
             return (status, 0, *self.state)
@@ -956,30 +956,6 @@ def calls_at_their_edges():
         yield from kept((2, 3, 6, 1, 3, 1), partial(3, [b""])[:20], f"append_component {c}")
 
 
-def limits_on_what_is_appended():
-    """States that no start leads to, where MPL, MCC or MCL decides over what is appended."""
-    yield "# a buffer whose lengths are within what is declared, and at a limit or past it"
-    for mcl, mcc, mpl, length, count, path in (
-        (1, 1, 0, 1, 1, [b"\1"]), (1, 1, 1, 1, 1, [b"\1"]), (1, 1, 0, 1, 1, [b""]), (2, 2, 2, 3, 2, [b"\1\2", b"\3"]), (2, 2, 2, 3, 2, [b"\1\2", b""]), (2, 2, 3, 3, 2, [b"\1\2", b"\3"]),
-        (1, 0, 1, 1, 1, [b"\1"]), (1, 0, 1, 1, 1, []), (0, 1, 0, 0, 2, [b"", b""]), (0, 1, 0, 0, 2, [b""]), (0, 2, 0, 0, 2, [b"", b""]), (1, 1, 1, 2, 2, [b"\1", b"\2"]), (1, 1, 1, 2, 2, [b"\1"]),
-    ):
-        buffer = partial(count, path).ljust(size(length, count), b"\xee")
-        for call in ("build", "append_component x", "append_component x01"):
-            yield from kept((mcl, mcc, mpl, length, count, len(path)), buffer, call)
-    yield "# a build beside a buffer that is a byte too short, or empty: the components appended could reach the declared length, or not"
-    for mcl, count, appended, more in itertools.product((0, 1, 2), (0, 1, 2), (0, 1, 2, 3), (-1, 0, 1)):
-        length = appended * mcl + more
-        if appended <= count + 1 and 0 <= length <= 5:
-            state, buffer = (mcl, 2, 5, length, count, appended), partial(count, [b""] * count).ljust(size(length, count), b"\xee")
-            yield from kept(state, buffer[:-1], "build")
-            if more:
-                yield from kept(state, b"", "build")
-    for state in ((0, 1, 1, 1, 1, 1), (0, 1, 1, 1, 1, 2)):
-        yield from kept(state, partial(1, [b""]), "build")
-    for state in ((1024, 1024, 4096, 4096, 4, 4), (1023, 1024, 4096, 4096, 4, 4), (1024, 1024, 4096, 4096, 3, 3), (1024, 1024, 4096, 4096, 4, TOP), (1024, 1024, 4096, 4096, 1024, 1024)):
-        yield from kept(state, b"", "build")
-
-
 def damaged():
     """A run is stopped, and something else changes the state or the buffer."""
     yield "# a buffer that was changed: each byte of its table, and a byte of a component, which is free"
@@ -1082,5 +1058,5 @@ def parts():
     yield part("reading", lambda line: answer(line, READING), [orders(), counts(), limits(), malformed(), refusals(), written(), forms(), randoms(210)])
     making = [stated(), bounds(), lengths(), sizes(), rooms(), counted_below(), broken(), leasts(), made_forms(), randoms_made(300)]
     yield part("making", lambda line: answer(line, MAKING), making)
-    built = [greatest_paths(), whole_runs(), starts(), calls_at_their_edges(), limits_on_what_is_appended(), damaged(), host_forms(), random_runs(60)]
+    built = [greatest_paths(), whole_runs(), starts(), calls_at_their_edges(), damaged(), host_forms(), random_runs(60)]
     yield part("building", Host().answer, built)

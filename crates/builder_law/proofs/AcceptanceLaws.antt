@@ -127,11 +127,7 @@ module _ (s : State) (c : Component) (out : List ℕ) where
         as_many = omega arith;
         few = omega arith;
         short = omega arith;
-        valid = record {
-          count = omega arith;
-          total = omega arith;
-          each = all_append (ValidComponent (limits_of s)) q (c ∷ []) h.valid.each ((a.narrow, bc), tt);
-        };
+        each = all_append (ValidComponent (limits_of s)) q (c ∷ []) h.each ((a.narrow, bc), tt);
         begins = ap (take (length v)) w ∙ take_at v (drop (length v) out) (length v) refl;
       }
 
@@ -153,7 +149,7 @@ module _ (s : State) (out : List ℕ) where
         omega arith,
         record {
           path = q;
-          valid = h.valid;
+          valid = record { count = omega arith; total = omega arith; each = h.each };
           count = count;
           bytes = omega arith;
           begins = rw packed at h.begins;
@@ -174,7 +170,7 @@ module _ (s : State) (out : List ℕ) where
       let m = ap length w.begins in
       let k = length-take (length (pack w.path)) out in
       let d : Declared s out = record { limits = a; short = omega arith; few = omega arith; room = omega arith } in
-      let h : Holds s out w.path = record { as_many = omega arith; few = omega arith; short = omega arith; valid = v; begins = rw packed at w.begins } in
+      let h : Holds s out w.path = record { as_many = omega arith; few = omega arith; short = omega arith; each = v.each; begins = rw packed at w.begins } in
       sym (build_fine s out (state_fine s out d w.path h) (omega arith) (long s out d) (path_length w.path) (known_bytes s out d w.path h) (omega arith))
 
 pub builder_acceptance : BuilderAcceptance

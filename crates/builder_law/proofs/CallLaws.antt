@@ -4,17 +4,16 @@ use Prim.Native.Nat.{ℕ, ◌+◌, ◌-◌, ◌*◌, ◌≤◌, ◌<◌}
 use mathlib.Core.Path.{◌≡◌, refl, sym, ◌∙◌, ap}
 use mathlib.Core.List.{List}
 use mathlib.Core.Option.{Option, none, some}
-use mathlib.Core.Bool.{true, false, ◌||◌, cond}
+use mathlib.Core.Bool.{true, false, ◌&&◌, ◌||◌, cond}
 use native.Mathlib.Omega.{arith}
-use native.Mathlib.Nat.{mul-le-mul}
-use lib.Dec.{ltb}
+use lib.Dec.{ltb, eqb}
 use lib.ListN.{length}
-use borrow.Author.Tests.{lt-ltb, le-ltb, ltb-false, leb-true}
+use borrow.Author.Tests.{lt-ltb, le-ltb, eq-eqb, ne_eqb, ltb-false, leb-true}
 use Rattle.willow.specs.declared.Limits.{Limits}
 use Rattle.willow.specs.declared.Refusal.{Refusal}
 use Rattle.willow.specs.declared.Refusal.TheVariants.{BadLimits, ComponentTooLong, NoSuchPrefix, Overfilled, Unfinished, OutTooSmall}
 use Rattle.willow.specs.Answers.{or_else, limits_refusal, path_refusal, path_in}
-use Rattle.willow.specs.Limits.{max_mCL, max_mCC, accepted_limits}
+use Rattle.willow.specs.Limits.{accepted_limits}
 use Rattle.willow.specs.Paths.{Component, path_length}
 use Rattle.willow.proofs.AnswerLaws.{or_else_none}
 use Rattle.willow.proofs.Bools.{neither_true}
@@ -22,9 +21,7 @@ use Rattle.packed.specs.Readable.{Readable}
 use Rattle.lent_path.proofs.LentLaws.{readable_prefix}
 use Rattle.lent_path.proofs.TestLaws.{readable}
 use Rattle.builder_parts.specs.Buffer.{size_of, Next}
-use Rattle.builder_law.specs.Building.{State, declared_size, limits_of, most_bytes, appended_path, long_enough, declared_refusal, room_refusal, state_refusal, known_length, overfilled, unreachable, length_short, unfinished, state_of, new_refusal, prefix_refusal, append_refusal, build_refusal}
-use Rattle.builder_law.proofs.HoldsLaws.{most_room, agrees_tests}
-use Rattle.builder_law.proofs.ReachLaws.{reach_many, reach_short, reach_enough}
+use Rattle.builder_law.specs.Building.{State, declared_size, limits_of, appended_path, long_enough, declared_refusal, room_refusal, state_refusal, known_length, overfilled, length_short, unfinished, state_of, new_refusal, prefix_refusal, append_refusal, build_refusal}
 use Rattle.builder_law.proofs.StateLaws.{not_if, not_unless, room_there, table_room, sound, known_read, known_within}
 
 -- 11 AND 15, passed.
@@ -232,26 +229,25 @@ module _ (s : State) (c : Component) (out : List ℕ) where
   append_passed e =
       let a = append_known e in
       let k = known_read s out a.long in
-      let d = sound s out a.state in
       record {
         mcl = s.mcl;
-        most = most_bytes s;
-        agreed = ((agrees_tests s out).0 (d.agreed a.long)).1;
-        room = most_room s out (leb-true (declared_size s) (length out) a.long);
+        most = s.length;
+        agreed = (sound s out a.state).agreed a.long;
+        room = leb-true (size_of s.length s.count) (length out) a.long;
         more = a.few;
-        fits = let f = a.short in let l = d.short in omega arith;
+        fits = let f = a.short in omega arith;
       }
 
 -- A BUILD: behind the state 12, 15.
 module _ (s : State) (out : List ℕ) where
-  -- 12 by the length: of the components that are read, or where none can be read, by the most that they could have
+  -- 12 by the length: of the components that are read, or where none can be read, of nothing
   pub short_read : long_enough s out ≡ true → length_short s out ≡ ltb (path_length (appended_path s out)) s.length
   unfolding length_short
-  short_read h = ap (λ b. cond b (ltb (path_length (appended_path s out)) s.length) (unreachable s)) h
+  short_read h = ap (λ b. cond b (ltb (path_length (appended_path s out)) s.length) (eqb s.appended 0 && ltb 0 s.length)) h
 
-  pub short_unread : long_enough s out ≡ false → length_short s out ≡ unreachable s
+  pub short_unread : long_enough s out ≡ false → length_short s out ≡ (eqb s.appended 0 && ltb 0 s.length)
   unfolding length_short
-  short_unread h = ap (λ b. cond b (ltb (path_length (appended_path s out)) s.length) (unreachable s)) h
+  short_unread h = ap (λ b. cond b (ltb (path_length (appended_path s out)) s.length) (eqb s.appended 0 && ltb 0 s.length)) h
 
   pub build_tested : or_else (state_refusal s out) (or_else (unfinished s out) (room_refusal s out)) ≡ build_refusal s out
   unfolding build_refusal
@@ -274,23 +270,14 @@ module _ (s : State) (out : List ℕ) where
             rw (← build_tested, state, le-ltb s.appended s.count all, short_read long, long, le-ltb (path_length (appended_path s out)) s.length (omega arith))
 
       module _ (short : long_enough s out ≡ false) where
-        pub build_many : s.count < s.appended → some OutTooSmall ≡ build_refusal s out
-        build_many h = rw (← build_tested, state, le-ltb s.appended s.count all, short_unread short, short, reach_many s h)
+        pub build-nothing : s.appended ≡ 0 → 0 < s.length → some Unfinished ≡ build_refusal s out
+        build-nothing h k = rw (← build_tested, state, le-ltb s.appended s.count all, short_unread short, short, eq-eqb s.appended 0 h, lt-ltb 0 s.length k)
 
-        module _ (few : s.appended ≤ s.count) where
-          pub build_unreachable : s.appended * s.mcl < s.length → some Unfinished ≡ build_refusal s out
-          build_unreachable h = rw (← build_tested, state, le-ltb s.appended s.count all, short_unread short, short, reach_short s few h)
+        pub build-empty : s.appended ≡ 0 → s.length ≤ 0 → some OutTooSmall ≡ build_refusal s out
+        build-empty h k = rw (← build_tested, state, le-ltb s.appended s.count all, short_unread short, short, eq-eqb s.appended 0 h, le-ltb 0 s.length k)
 
-          pub build_room : s.length ≤ s.appended * s.mcl → some OutTooSmall ≡ build_refusal s out
-          build_room h = rw (← build_tested, state, le-ltb s.appended s.count all, short_unread short, short, reach_enough s few h)
-
-    -- the product is a small number, since no more are appended than the limits allow
-    pub build_reach : s.appended ≤ s.count → s.appended * s.mcl ≤ max_mCC * max_mCL
-    build_reach few =
-        let k = sound s out state in
-        let a = k.accepted in
-        let f : s.appended ≤ max_mCC = omega arith in
-        mul-le-mul f a.mcl_within
+        pub build_room : (s.appended ≡ 0 → ⊥) → some OutTooSmall ≡ build_refusal s out
+        build_room h = rw (← build_tested, state, le-ltb s.appended s.count all, short_unread short, short, ne_eqb s.appended 0 h)
 
   -- what a build says that was not refused
   pub record BuildKnown : Type 0 where

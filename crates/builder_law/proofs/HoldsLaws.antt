@@ -1,13 +1,11 @@
 -- What a buffer that agrees holds: the components that are read from it, and no others; and what is read of a lent reference.
 use Prim.Native.Nat.{ℕ, ◌+◌, ◌-◌, ◌*◌, ◌≤◌}
 use mathlib.Core.Path.{◌≡◌, refl}
-use mathlib.Core.Logic.{◌↔◌}
 use mathlib.Core.List.{List}
 use mathlib.Core.Option.{Option, none, some}
-use mathlib.Core.Bool.{Bool, true}
+use mathlib.Core.Bool.{true}
 use native.Mathlib.Omega.{arith}
 use lib.ListN.{length}
-use borrow.Author.Tests.{leb-true, le-leb}
 use Rattle.willow.specs.declared.Limits.{Limits}
 use Rattle.willow.specs.declared.Refusal.{Refusal}
 use Rattle.willow.specs.Answers.{unless, path_in, path_refusal, on_path}
@@ -18,12 +16,11 @@ use Rattle.willow.specs.Packed.{pack, Lent}
 use Rattle.willow.specs.Paths.{Path, ValidComponent}
 use Rattle.willow.specs.Refusals.{value}
 use Rattle.willow.proofs.AnswerLaws.{path_questions}
-use Rattle.willow.proofs.Bools.{conjunction_means}
 use Rattle.willow.proofs.ListLaws.{all_also, all_both}
 use Rattle.willow.proofs.PackedLaws.{components_bytes}
-use Rattle.builder_parts.specs.Buffer.{size_of, partial, agrees_with, components_in}
-use Rattle.builder_parts.proofs.BufferLaws.{front_agrees, front_read, Known, known, agrees_begins}
-use Rattle.builder_law.specs.Building.{State, limits_of, declared_size, Holds, most_bytes, agrees, appended_path}
+use Rattle.builder_parts.specs.Buffer.{partial, components_in}
+use Rattle.builder_parts.proofs.BufferLaws.{front_agrees, front_read, known, agrees_begins}
+use Rattle.builder_law.specs.Building.{State, limits_of, declared_size, Holds, agrees, appended_path}
 use Rattle.builder_law.specs.Runs.{Words}
 
 -- WHAT AGREEMENT MEANS.
@@ -32,37 +29,17 @@ unfolding components_in
 components_read_bytes count appended out bs = components_bytes out bs (8 + 8 * count) appended 8 0
 
 module _ (s : State) (out : List ℕ) where
-  -- a buffer that is long enough for the declared path is so for the most bytes that may be appended
-  pub most_room : declared_size s ≤ length out → size_of (most_bytes s) s.count ≤ length out
-  unfolding size_of
-  most_room room = omega arith
-
-  -- the agreement: of the count with MCC, and of the lengths
-  abbrev pub lengths_agree : Bool
-  lengths_agree = agrees_with s.mcl (most_bytes s) s.count s.appended out
-
-  pub agrees_tests : (agrees s out ≡ true) ↔ ((s.appended ≤ s.mcc) × (lengths_agree ≡ true))
-  agrees_tests = conjunction_means (leb-true s.appended s.mcc, le-leb s.appended s.mcc) (λ e. e, λ e. e)
-
-  pub agreed_known : agrees s out ≡ true → declared_size s ≤ length out → Known s.mcl (most_bytes s) s.count s.appended out
-  agreed_known h room = known s.mcl (most_bytes s) s.count s.appended out (agrees_tests.0 h).1 (most_room room)
-
   pub agrees_holds : Bytes out → declared_size s ≤ length out → agrees s out ≡ true → (q : Path) × Holds s out q
   agrees_holds bs room h =
       let q : Path = appended_path s out in
-      let a = agrees_tests.0 h in
-      let k = agreed_known h room in (
+      let k = known s.mcl s.length s.count s.appended out h room in (
         q,
         record {
           as_many = k.as_many;
           few = k.few;
-          short = omega arith;
-          valid = record {
-            count = omega arith;
-            total = omega arith;
-            each = all_both (λ c. length c ≤ s.mcl) Bytes q k.sizes (components_read_bytes s.count s.appended out bs);
-          };
-          begins = agrees_begins s.mcl (most_bytes s) s.count s.appended out a.1 (most_room room) bs;
+          short = k.short;
+          each = all_both (λ c. length c ≤ s.mcl) Bytes q k.sizes (components_read_bytes s.count s.appended out bs);
+          begins = agrees_begins s.mcl s.length s.count s.appended out h room bs;
         },
       )
 
@@ -70,19 +47,10 @@ module _ (s : State) (out : List ℕ) where
     counts : length q ≤ s.count
     counts = let n = h.as_many in let f = h.few in omega arith
 
-    lengths_agree_lem : lengths_agree ≡ true
-    lengths_agree_lem =
-        let l = h.short in
-        let t = h.valid.total in
-        let m = w.length_word in
-        rw h.as_many at (front_agrees s.count out q counts h.begins s.mcl (most_bytes s) w.count_word (omega arith) (omega arith)
-        (all_also (ValidComponent (limits_of s)) (λ c. length c ≤ s.mcl) (λ c v. v.0) q h.valid.each))
-
     pub holds_agrees : agrees s out ≡ true
     holds_agrees =
-        let n = h.as_many in
-        let m = h.valid.count in
-        agrees_tests.1 (omega arith, lengths_agree_lem)
+        rw h.as_many at (front_agrees s.count out q counts h.begins s.mcl s.length w.count_word w.length_word h.short
+        (all_also (ValidComponent (limits_of s)) (λ c. length c ≤ s.mcl) (λ c v. v.0) q h.each))
 
     pub holds_read : appended_path s out ≡ q
     holds_read =

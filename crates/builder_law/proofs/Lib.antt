@@ -1,7 +1,6 @@
 pub mod StateLaws
 pub mod CallLaws
 pub mod HoldsLaws
-pub mod ReachLaws
 pub mod AcceptanceLaws
 pub mod RunLaws
 pub mod TableLaws

@@ -19,9 +19,9 @@ use Rattle.willow.specs.Paths.{Component, Path, path_length, ValidComponent, Val
 use Rattle.willow.specs.Refusals.{value}
 use Rattle.willow.proofs.ConstructionLaws.{construction, valid_admitted}
 use Rattle.willow.proofs.LimitLaws.{limit_laws}
-use Rattle.willow.proofs.ListLaws.{all_drop}
+use Rattle.willow.proofs.ListLaws.{all_take, all_drop}
 use Rattle.willow.proofs.PackedLaws.{pack_length}
-use Rattle.willow.proofs.ValidLaws.{path_length_append, path_length_take, valid_take}
+use Rattle.willow.proofs.ValidLaws.{path_length_append, path_length_take}
 use Rattle.number.specs.Overwriting.{overwrite}
 use Rattle.number.proofs.OverwritingLaws.{length_overwrite, overwrite_at_front, overwrite_twice}
 use Rattle.lent_path.proofs.LentLaws.{prefix_in}
@@ -65,7 +65,7 @@ module _ (L : Limits) (p : Path) (out : List ℕ) (a : Accepted L) (v : Valid L 
       as_many = length-take-le n p few;
       few = few;
       short = path_length_take n p;
-      valid = valid_take L n p v;
+      each = all_take (ValidComponent L) n p v.each;
       begins = ap (take (length front)) (e ∙ overwrite_at_front out front) ∙ take_at front (drop (length front) out) (length front) refl;
     }
 

@@ -8,7 +8,7 @@ use mathlib.Core.Bool.{Bool, true, false, ◌&&◌, not, cond}
 use native.Mathlib.Omega.{arith}
 use lib.Dec.{ltb}
 use lib.ListN.{length}
-use borrow.Author.Tests.{lt-ltb, le-ltb, ltb-false, lt-leb, le-leb, leb-true}
+use borrow.Author.Tests.{lt-ltb, le-ltb, ltb-false, leb-true}
 use Rattle.willow.specs.declared.Refusal.{Refusal}
 use Rattle.willow.specs.declared.Refusal.TheVariants.{BadLimits, BadPath, PathTooLong, TooManyComponents}
 use Rattle.willow.specs.declared.Tested.{Tested}
@@ -18,10 +18,9 @@ use Rattle.willow.specs.Limits.{Accepted, accepted_limits}
 use Rattle.willow.specs.Packed.{length_before}
 use Rattle.willow.specs.Paths.{path_length}
 use Rattle.willow.proofs.AnswerLaws.{limits_passed, or_else_none}
-use Rattle.builder_parts.specs.Buffer.{size_of, agrees_with}
-use Rattle.builder_parts.proofs.BufferLaws.{Known}
-use Rattle.builder_law.specs.Building.{State, limits_of, declared_size, most_bytes, agrees, appended_path, long_enough, declared_refusal, buffer_refusal, state_refusal, known_length}
-use Rattle.builder_law.proofs.HoldsLaws.{agreed_known}
+use Rattle.builder_parts.specs.Buffer.{size_of}
+use Rattle.builder_parts.proofs.BufferLaws.{Known, known}
+use Rattle.builder_law.specs.Building.{State, limits_of, agrees, appended_path, long_enough, declared_refusal, buffer_refusal, state_refusal, known_length}
 
 -- A TEST WITHIN A CHAIN OF TESTS. What it refuses is handed on; what it passes goes on to the next.
 pub handed_on : (a b : Option Refusal) (t : Tested) (r : Refusal) → tested_refusal t ≡ a → t ≡ tested.Refused r → tested_refusal t ≡ or_else a b
@@ -69,13 +68,6 @@ module _ (s : State) (out : List ℕ) where
 
   pub table_room : long_enough s out ≡ true → 8 + 8 * s.count ≤ length out
   table_room h = let r = room_there h in omega arith
-
-  -- the agreement: more components than MCC; else as their lengths say
-  pub agree_over : s.mcc < s.appended → false ≡ agrees s out
-  agree_over h = rw (lt-leb s.appended s.mcc h)
-
-  pub agree_within : s.appended ≤ s.mcc → (most : ℕ) → most ≡ most_bytes s → agrees_with s.mcl most s.count s.appended out ≡ agrees s out
-  agree_within h most e = rw (le-leb s.appended s.mcc h, e)
 
   pub state_limits : accepted_limits (limits_of s) ≡ false → some BadLimits ≡ state_refusal s out
   unfolding state_refusal limits_refusal
@@ -129,8 +121,8 @@ module _ (s : State) (out : List ℕ) where
   known_read h = rw h
 
   module _ (e : state_refusal s out ≡ none) where
-    pub buffer_known : long_enough s out ≡ true → Known s.mcl (most_bytes s) s.count s.appended out
-    buffer_known h = agreed_known s out ((sound e).agreed h) (leb-true (declared_size s) (length out) h)
+    pub buffer_known : long_enough s out ≡ true → Known s.mcl s.length s.count s.appended out
+    buffer_known h = known s.mcl s.length s.count s.appended out ((sound e).agreed h) (leb-true (size_of s.length s.count) (length out) h)
 
     -- the table has as many lengths, and the last of them is the number of bytes
     pub table_there : long_enough s out ≡ true → 8 + 8 * s.appended ≤ length out

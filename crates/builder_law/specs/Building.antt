@@ -3,14 +3,15 @@
 -- "The builder is taken and handed back by every append; where the Rust asserts or overruns, 5, 10, 11, 12 and 15 stand
 -- instead. Its buffer, if shorter than the declared path, gets 15; else it agrees if it holds the declared count, well-formed
 -- lengths of the components appended, no more than declared, and zeros for the lengths to come."
-use Rattle.std.specs.Prelude.{ℕ, ◌+◌, ◌*◌, ◌≤◌, min, ◌≡◌, List, [], ◌∷◌, ◌++◌, Bool, ◌&&◌, ◌||◌, not, cond, leb, ltb, length, take}
+use Rattle.std.specs.Prelude.{ℕ, ◌+◌, ◌≤◌, ◌≡◌, List, [], ◌∷◌, ◌++◌, Bool, ◌&&◌, ◌||◌, not, cond, leb, ltb, eqb, length, take}
 use Rattle.std.proofs.Math.Option.{Option, none, some}
 use Rattle.willow.specs.declared.Limits.{Limits}
 use Rattle.willow.specs.declared.Refusal.{Refusal}
 use Rattle.willow.specs.declared.Refusal.TheVariants.{BadPath, PathTooLong, TooManyComponents, ComponentTooLong, NoSuchPrefix, Overfilled, Unfinished, OutTooSmall}
 use Rattle.number.specs.Overwriting.{overwrite}
 use Rattle.willow.specs.Answers.{or_else, limits_refusal, path_refusal, path_in}
-use Rattle.willow.specs.Paths.{Component, Path, path_length, Valid}
+use Rattle.willow.specs.Lists.{All}
+use Rattle.willow.specs.Paths.{Component, Path, path_length, ValidComponent}
 use Rattle.builder_parts.specs.Buffer.{size_of, partial, agrees_with, components_in}
 
 -- A STATE of the builder: the limits, the declared length and count, and how many components are appended.
@@ -30,22 +31,17 @@ abbrev pub declared_size : State → ℕ
 declared_size s = size_of s.length s.count
 
 -- MEANT by a buffer that agrees with its state: it begins with what stands there once some components q are appended, as many
--- as the state says, in count and length no more than declared. Their lengths are well formed as those of a packed path are,
--- "k at most MCC, steps from 0 up to MCL, last at most MPL": so q is a valid path. What stands behind q's bytes is free.
+-- as the state says, each valid, in count and length no more than declared. What stands behind q's bytes is free.
 pub record Holds (s : State) (out : List ℕ) (q : Path) : Type 0 where
   pub as_many : length q ≡ s.appended
   pub few : s.appended ≤ s.count
   pub short : path_length q ≤ s.length
-  pub valid : Valid (limits_of s) q
+  pub each : All (ValidComponent (limits_of s)) q
   pub begins : take (length (partial s.count q)) out ≡ partial s.count q
 
--- COMPUTED. The most bytes that may be appended, so that they pass neither the declared length nor MPL:
-abbrev pub most_bytes : State → ℕ
-most_bytes s = min s.length s.mpl
-
--- whether the buffer agrees, and the components that were appended, as it holds them.
+-- COMPUTED: whether it agrees, and the components that were appended, as the buffer holds them.
 abbrev pub agrees : State → List ℕ → Bool
-agrees s out = leb s.appended s.mcc && agrees_with s.mcl (most_bytes s) s.count s.appended out
+agrees s out = agrees_with s.mcl s.length s.count s.appended out
 
 abbrev pub appended_path : State → List ℕ → Path
 appended_path s out = components_in s.count s.appended out
@@ -81,14 +77,11 @@ abbrev pub overfilled : State → ℕ → ℕ → ℕ → ℕ → Option Refusal
 overfilled s count bytes moreComponents moreBytes =
     cond (ltb s.count (count + moreComponents) || ltb s.length (bytes + moreBytes)) (some Overfilled) none
 
--- 12: "a build with count or length short of what was declared". Where the buffer is too short to be read, the length is certain
--- to be short only if as many components as are appended, of MCL bytes each, would not reach it. Where more are appended than
--- declared the state is one that no run leads to, and its length is not judged.
-unfoldable pub unreachable : State → Bool
-unreachable s = leb s.appended s.count && ltb (s.appended * s.mcl) s.length
-
+-- 12: "a build with count or length short of what was declared". Where the buffer is too short to be read, the length is
+-- judged only where nothing is appended, as docs/DECISIONS.md decides.
 unfoldable pub length_short : State → List ℕ → Bool
-length_short s out = cond (long_enough s out) (ltb (path_length (appended_path s out)) s.length) (unreachable s)
+length_short s out =
+    cond (long_enough s out) (ltb (path_length (appended_path s out)) s.length) (eqb s.appended 0 && ltb 0 s.length)
 
 abbrev pub unfinished : State → List ℕ → Option Refusal
 unfinished s out = cond (ltb s.appended s.count || length_short s out) (some Unfinished) none

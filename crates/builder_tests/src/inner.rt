@@ -1,10 +1,10 @@
 // The tests of a builder's calls, by the numbers of its state and the buffer beside it. They are not open to a caller; each but
-// `buffer_agrees` and `known_length` may be asked of any numbers.
+// `known_length` may be asked of any numbers.
 
-ghost use Rattle.std.specs.Prelude.{true, ◌≡◌};
 ghost use Rattle.std.proofs.Math.Option.{none};
+ghost use Rattle.std.specs.Prelude.{◌≡◌};
 ghost use Rattle.willow.specs.Answers.{tested_refusal};
-ghost use Rattle.builder_law.specs.Building.{agrees, append_refusal, build_refusal, declared_refusal, known_length, long_enough, most_bytes, new_refusal, prefix_refusal, state_of, state_refusal};
+ghost use Rattle.builder_law.specs.Building.{append_refusal, build_refusal, declared_refusal, known_length, new_refusal, prefix_refusal, state_of, state_refusal};
 
 use builder_parts::inner;
 use willow::{Limits, Refusal, Tested};
@@ -22,37 +22,13 @@ fn declared_test(limits: Limits, length: u64, count: u64) -> Tested
     Tested::Fine
 }
 
-// The most bytes that may be appended: the declared length, or MPL where that is smaller.
-fn most_bytes(limits: Limits, length: u64) -> u64
-    ensures { result ≡ most_bytes (state_of limits length 0 0) }
-{
-    if length < limits.mpl {
-        length
-    } else {
-        limits.mpl
-    }
-}
-
-// Whether a buffer that is long enough agrees with the state: no more than MCC components are appended, and their lengths
-// stand there as the limits and the declared sizes allow.
-fn buffer_agrees(limits: Limits, length: u64, count: u64, appended: u64, out: &[u8]) -> bool
-    requires { long_enough (state_of limits length count appended) out.now ≡ true }
-    ensures { result ≡ agrees (state_of limits length count appended) out.now }
-{
-    if limits.mcc < appended {
-        return false;
-    }
-    let most = most_bytes(limits, length);
-    inner::agrees(limits.mcl, most, count, appended, out)
-}
-
 // 1, 5, 7, 8: what every call tests of a state and the buffer beside it. 5 is judged only of a buffer that is long enough.
 fn state_test(limits: Limits, length: u64, count: u64, appended: u64, out: &[u8]) -> Tested
     ensures { tested_refusal result ≡ state_refusal (state_of limits length count appended) out.now }
 {
     if refusals::limits_accepted(limits) {
         if inner::long_enough(length, count, out) {
-            if buffer_agrees(limits, length, count, appended, out) {
+            if inner::agrees(limits.mcl, length, count, appended, out) {
                 return declared_test(limits, length, count);
             }
             return Tested::Refused(Refusal::BadPath);
@@ -156,8 +132,7 @@ pub fn append_test(
     Tested::Refused(Refusal::OutTooSmall)
 }
 
-// The tests of a build: behind those of the state 12, 15. Beside a buffer that is too short to be read, the most bytes that the
-// components can have are compared; the product is a small number, since no more are appended than were accepted.
+// The tests of a build: behind those of the state 12, 15.
 pub fn build_test(limits: Limits, length: u64, count: u64, appended: u64, out: &[u8]) -> Tested
     ensures { tested_refusal result ≡ build_refusal (state_of limits length count appended) out.now }
 {
@@ -174,8 +149,8 @@ pub fn build_test(limits: Limits, length: u64, count: u64, appended: u64, out: &
         }
         return Tested::Fine;
     }
-    if appended <= count {
-        if appended * limits.mcl < length {
+    if appended == 0 {
+        if 0 < length {
             return Tested::Refused(Refusal::Unfinished);
         }
     }

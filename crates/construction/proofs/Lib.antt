@@ -1,3 +1,1 @@
 pub mod MakingLaws
-pub mod MakingTableLaws
-pub mod MakingAnswerLaws

@@ -3,9 +3,18 @@
 use Rattle.std.specs.Prelude.{ℕ}
 use Rattle.willow.specs.Refusals.{refusal_number}
 use Rattle.willow.specs.Store.{Answer, refused, outdated, repeated, taken}
-use Rattle.convention.specs.HostNumbers.{taken_number, outdated_number, repeat_number}
 use Rattle.convention.specs.Exports.{answered_status}
 use Rattle.host_store.specs.declared.OfferAnswer.{OfferAnswer}
+
+-- Taken is 0, outdated 1, repeat 2.
+abbrev pub taken_number : ℕ
+taken_number = 0
+
+abbrev pub outdated_number : ℕ
+outdated_number = 1
+
+abbrev pub repeat_number : ℕ
+repeat_number = 2
 
 abbrev pub no_offer : ℕ → OfferAnswer
 no_offer status = record { status = status; answer = 0; pruned = 0 }

@@ -9,4 +9,3 @@ pub mod AnsweringLaws
 pub mod ShownLaws
 pub mod PrintingLaws
 pub mod KeyTheoremHolds
-pub mod LineTableLaws

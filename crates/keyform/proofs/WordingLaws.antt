@@ -171,7 +171,7 @@ form_decided line = elim (bool_cases (leb (length line) max_line)) [
 ]
 
 -- ONE WORDING. The numerals of two wordings of a line are the same, from the front, and then the questions.
-pub one_reading : (line : List ℕ) (v w : Wording) → OfForm line v → OfForm line w → v ≡ w
+one_reading : (line : List ℕ) (v w : Wording) → OfForm line v → OfForm line w → v ≡ w
 one_reading line v w f g =
     let a = numeral_split v.mcl w.mcl _ _ (sym f.worded ∙ g.worded) in
     let b = numeral_split v.mcc w.mcc _ _ a.1 in

@@ -2,7 +2,6 @@ pub mod Answering
 pub mod FormCases
 pub mod KeyCases
 pub mod KeyTheorem
-pub mod LineTable
 pub mod Reading
 pub mod Splitting
 pub mod Texts

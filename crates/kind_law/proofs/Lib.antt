@@ -1,2 +1,1 @@
 pub mod KindMeaningLaws
-pub mod AnsweredKindLaws

@@ -1,2 +1,1 @@
 pub mod KindMeaning
-pub mod AnsweredKinds

@@ -1,3 +1,2 @@
 pub mod ListingProofs
 pub mod ListingTableLaws
-pub mod ListedBufferLaws

@@ -4,4 +4,3 @@ pub mod TableLaws
 pub mod StepLaws
 pub mod TheoremProof
 pub mod RefusalLaws
-pub mod BytesTableLaws

@@ -18,10 +18,8 @@ use Rattle.willow.specs.Lists.{All}
 use Rattle.willow.specs.Packed.{unpack, lent, Lent}
 use Rattle.willow.specs.Paths.{Path}
 use Rattle.willow.specs.Refusals.{Outcome, refused}
-use Rattle.willow.specs.TableRows.{bad_path, among, lent_rows}
 use Rattle.willow.proofs.AnswerLaws as limits
-use Rattle.willow.proofs.AnswerLaws.{accepted_words, or_else_none, limits_passed, limits_row, lent_more}
-use Rattle.willow.proofs.Rows.{First, passes, no_row, behind, answered}
+use Rattle.willow.proofs.AnswerLaws.{accepted_words, or_else_none}
 use Rattle.willow.proofs.PackedLaws.{packed_form}
 use Rattle.packed.specs.Readable.{Readable}
 use Rattle.lent_path.proofs.TestLaws.{readable}
@@ -138,25 +136,32 @@ ranges_readable L r s e r₂ s₂ e₂ h =
 pub closed_readable : (d : PathEnd) (e : List ℕ) (k : ℕ) → d ≡ Closed k → EndReadable d e → Readable e k
 closed_readable d e k h r = rw h at r
 
--- WHAT THE QUESTIONS MEAN. 1, then 5 of the paths.
-paths_row : (L : Limits) (ps : List LentPath) → All HoldsBytes ps → Accepted L → First (bad_path L (among ps) ∷ []) (any_bad_path L ps)
-paths_row L [] h a = passes (λ n. n.1) (no_row refl)
-paths_row L (p ∷ ps) h a = lent_more L p ps (any_bad_path L ps) a h.0 (paths_row L ps h.1 a)
-
-pub paths_rows : (L : Limits) (ps : List LentPath) → All HoldsBytes ps → First (lent_rows L ps) (lent_paths_refusal L ps)
+-- WHAT THE QUESTIONS MEAN. Limits that are not accepted are refused first; accepted ones leave the paths to be judged.
+limits_refused : (L : Limits) (ps : List LentPath) → (Accepted L → ⊥) → lent_paths_refusal L ps ≡ some BadLimits
 unfolding lent_paths_refusal
-paths_rows L ps h = behind (limits_row L) (λ e p. paths_row L ps h (limits_passed L e))
+limits_refused L ps n = rw (limits.limits_refused L n)
 
 limits_fine : (L : Limits) (ps : List LentPath) → Accepted L → lent_paths_refusal L ps ≡ any_bad_path L ps
 unfolding lent_paths_refusal
 limits_fine L ps a = rw (limits.limits_fine L a)
 
--- Paths that are all lent pass.
+-- Paths that are all lent pass; and if not all are, the first that is none is refused.
 all_lent : (L : Limits) (ps : List LentPath) → All HoldsBytes ps → Accepted L → All (IsLent L) ps → any_bad_path L ps ≡ none
 unfolding lent_refusal
 all_lent L [] h a l = refl
 all_lent L (p ∷ ps) h a l =
     rw ((packed_form.lent_some L p.0 p.1 (accepted_words L a) h.0 l.0.0).1 l.0.1) (all_lent L ps h.1 a l.1)
+
+one-not-lent : (L : Limits) (ps : List LentPath) → All HoldsBytes ps → Accepted L → (All (IsLent L) ps → ⊥) → any_bad_path L ps ≡ some BadPath
+unfolding lent_refusal
+one-not-lent L [] h a n = absurd (n tt)
+one-not-lent L (p ∷ ps) h a n = go (lent L p.0 p.1) refl (one-not-lent L ps h.1 a)
+  where
+    go : (m : Option Path) → lent L p.0 p.1 ≡ m → ((All (IsLent L) ps → ⊥) → any_bad_path L ps ≡ some BadPath) → any_bad_path L (p ∷ ps) ≡ some BadPath
+    go none e rest = rw e
+    go (some q) e rest =
+        let l = (packed_form.lent_some L p.0 p.1 (accepted_words L a) h.0 q).0 e in
+        rw e (rest (λ ls. n ((q, l), ls)))
 
 -- What is read of a lent path is that path: its packed form is read back.
 lent_read : (L : Limits) (b : List ℕ) (k : ℕ) (q : Path) → Accepted L → Lent L b k q → path_in b k ≡ q
@@ -171,8 +176,8 @@ lent_read L b k q a l =
 pub lent_questions : LentQuestions
 unfolding on_lent
 lent_questions = record {
-  tested = λ L ps h. answered refl (paths_rows L ps h);
-  stopped = λ L ps o r e. rw e;
+  limits = λ L ps o n. rw (limits_refused L ps n);
+  path = λ L ps o h a n. rw (limits_fine L ps a, one-not-lent L ps h a n);
   asked = λ L ps o h a l. rw (limits_fine L ps a, all_lent L ps h a l);
   read = lent_read;
 }

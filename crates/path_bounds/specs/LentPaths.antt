@@ -1,8 +1,9 @@
 -- Questions with any number of lent paths: which of them are tested, and what is refused.
 use Rattle.std.specs.Prelude.{ℕ, ◌≡◌, List, [], ◌∷◌}
-use Rattle.std.proofs.Math.Option.{Option, none, some}
+use Rattle.std.proofs.Math.Option.{Option, none}
 use Rattle.willow.specs.declared.Limits.{Limits}
 use Rattle.willow.specs.declared.Refusal.{Refusal}
+use Rattle.willow.specs.declared.Refusal.TheVariants.{BadLimits, BadPath}
 use Rattle.willow.specs.Answers.{or_else, unless, limits_refusal, lent_refusal, path_in}
 use Rattle.willow.specs.Limits.{Accepted}
 use Rattle.willow.specs.Lists.{All}
@@ -10,8 +11,6 @@ use Rattle.willow.specs.Numbers.{Bytes}
 use Rattle.willow.specs.Packed.{Lent}
 use Rattle.willow.specs.Paths.{Path}
 use Rattle.willow.specs.Refusals.{Outcome, refused}
-use Rattle.willow.specs.TableRows.{lent_rows}
-use Rattle.willow.specs.Tables.{AnsweredBy}
 
 -- "A path is read as a lent buffer with a count beside it."
 abbrev pub LentPath : Type 0
@@ -38,13 +37,12 @@ HoldsBytes p = Bytes p.0
 abbrev pub IsLent : Limits → LentPath → Type 0
 IsLent L p = (q : Path) × Lent L p.0 p.1 q
 
--- What is tested is answered by the table; what the tests refuse is refused, whatever would be answered; and the answer is given where
--- the limits are accepted and the paths are lent. The answers are computed of `path_in`, and what it reads of a lent path is that path:
--- the premises of this are met by limits of 0 and the packed empty path.
+-- 1 exactly if the limits are not accepted; then 5 exactly if one of the paths is not lent; else the answer. The answers are computed
+-- of `path_in`, and what it reads of a lent path is that path: the premises of this are met by limits of 0 and the packed empty path.
 pub record LentQuestions : Type 1 where
-  pub tested : (L : Limits) (ps : List LentPath) → All HoldsBytes ps → AnsweredBy (lent_rows L ps) (lent_paths_refusal L ps)
-  pub stopped : {A : Type 0} (L : Limits) (ps : List LentPath) (o : Outcome A) (r : Refusal)
-      → lent_paths_refusal L ps ≡ some r → on_lent L ps o ≡ refused r
+  pub limits : {A : Type 0} (L : Limits) (ps : List LentPath) (o : Outcome A) → (Accepted L → ⊥) → on_lent L ps o ≡ refused BadLimits
+  pub path : {A : Type 0} (L : Limits) (ps : List LentPath) (o : Outcome A) → All HoldsBytes ps → Accepted L
+      → (All (IsLent L) ps → ⊥) → on_lent L ps o ≡ refused BadPath
   pub asked : {A : Type 0} (L : Limits) (ps : List LentPath) (o : Outcome A) → All HoldsBytes ps → Accepted L
       → All (IsLent L) ps → on_lent L ps o ≡ o
   pub read : (L : Limits) (b : List ℕ) (k : ℕ) (q : Path) → Accepted L → Lent L b k q → path_in b k ≡ q

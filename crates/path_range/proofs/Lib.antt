@@ -1,2 +1,1 @@
 pub mod PathRangeLaws
-pub mod PathRangePartLaws

@@ -1,2 +1,1 @@
 pub mod PathRanges
-pub mod PathRangeParts

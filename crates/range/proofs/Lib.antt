@@ -1,2 +1,1 @@
 pub mod NumberRangeLaws
-pub mod RangePartLaws

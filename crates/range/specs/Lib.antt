@@ -1,2 +1,1 @@
 pub mod NumberRanges
-pub mod RangeParts

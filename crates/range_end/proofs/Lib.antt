@@ -1,2 +1,1 @@
 pub mod NumberTests
-pub mod EndValueLaws

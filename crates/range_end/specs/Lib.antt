@@ -1,2 +1,1 @@
 pub mod EndValues
-pub mod EndLaws

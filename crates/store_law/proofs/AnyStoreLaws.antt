@@ -1,5 +1,5 @@
--- An offer to any store. A proper state comes from its own entries (`follows_own`). So one offer leads it on as demand 3's step says, and
--- what that says of the history comes out in the entries.
+-- An offer to any store. A proper state has the invariant of demand 3 with its own entries for the history, before which the bytes that
+-- it let go were let go. So one offer leads it on as demand 3's step says, and what that says of the history comes out in the entries.
 use Prim.Native.Nat.{ℕ, ◌+◌}
 use mathlib.Core.Path.{◌≡◌, refl, sym, ◌∙◌, ap, subst}
 use mathlib.Core.Logic.{◌⊎◌, inl, inr, ◌↔◌}
@@ -10,28 +10,54 @@ use native.Mathlib.Omega.{arith}
 use lib.Dec.{eqb}
 use lib.ListN.{drop}
 use borrow.Author.Tests.{eqb-true}
+use Rattle.willow.specs.declared.Order.TheVariants.{Less}
 use Rattle.willow.specs.declared.Refusal.TheVariants.{WrongNamespace}
 use Rattle.willow.specs.Demand3.{with_entry, grown, Stays, Makes, ByTable}
-use Rattle.willow.specs.Entries.{Entry, Prunes}
+use Rattle.willow.specs.Entries.{Entry, ValidEntry, Prunes, PlaceBelow, compare_places}
 use Rattle.willow.specs.Limits.{Words}
-use Rattle.willow.specs.Lists.{In}
+use Rattle.willow.specs.Lists.{In, Ascending}
 use Rattle.willow.specs.Packed.{lent}
 use Rattle.willow.specs.Paths.{Path}
 use Rattle.willow.specs.Store.{Sizes, State, Offer, Passed, offer, Answer, refused, outdated, repeated, taken, is_refused, entry_with, entry_from, offered, payloads, answer_entry, answer_offered, answer, after_answer, after_offered, after}
 use Rattle.willow.proofs.AnswerLaws.{accepted_words}
 use Rattle.willow.proofs.Demand3Laws.{View, v_refused, v_outdated, v_repeated, v_taken, view, Inv, given_by}
-use Rattle.willow.proofs.EntryLaws.{prunes_irreflexive}
-use Rattle.willow.proofs.FilingLaws.{payloads_snoc}
-use Rattle.willow.proofs.ListLaws.{in_left, in_last, in_snoc}
+use Rattle.willow.proofs.EntryLaws.{places_means, prunes_irreflexive}
+use Rattle.willow.proofs.FilingLaws.{Sorted, payloads_snoc}
+use Rattle.willow.proofs.ListLaws.{all_also, all_in, in_left, in_last, in_snoc}
 use Rattle.willow.proofs.PackedLaws.{packed_form}
 use Rattle.willow.proofs.TableLaws.{by_table}
 use Rattle.sheet.specs.Rows.{sheet_length}
-use Rattle.store_form.specs.Stores.{store_shape, store_layout, ProperStore, IsStore}
+use Rattle.store_form.specs.Stores.{store_shape, store_layout, Stands, ProperStore, IsStore}
 use Rattle.store_law.specs.AnyStore.{Leaves, Filed, OfferTo, AnyStore}
 use Rattle.store_law.specs.Offers.{answer_in, leaves_in}
 use Rattle.store_law.proofs.Demand3BytesLaws.{refused_stays}
 use Rattle.store_law.proofs.LaidOutLaws.{laid_rest, laid_answer, laid_leaves}
-use Rattle.store_law.proofs.ProperLaws.{proper, follows_step, accepted, follows_own}
+use Rattle.store_law.proofs.ProperLaws.{AcceptedSizes, Follows, proper, follows_step}
+
+means_sorted : (l : List Entry) → Ascending PlaceBelow l → Sorted l
+means_sorted [] a = tt
+means_sorted (x ∷ xs) a = (λ y i. (places_means x y).1 (a.0 y i), means_sorted xs a.1)
+
+-- A PROPER STATE comes from its own entries.
+module _ (z : Sizes) (t : State) (p : ProperStore z t) where
+  accepted : AcceptedSizes z
+  accepted = record { limits = p.limits_accepted; capacity = p.capacity_accepted; namespace = p.namespace_word }
+
+  follows_own : Follows z t.let_go t t.entries
+  follows_own =
+      let h = p.held_sum in
+      record {
+        inv = record {
+          ascending = means_sorted t.entries p.ascending;
+          names = λ x i. (all_in (Stands z) t.entries p.entries_stand x i).of_store;
+          sound = λ x i. (i, λ o j. p.none_prunes o x j i);
+          cover = λ x i. inl i;
+          holds = p.held_sum;
+          whole = omega arith;
+        };
+        within = record { count = p.count; totals = p.totals };
+        valid = all_also (Stands z) (ValidEntry z.limits) (λ e s. s.valid) t.entries p.entries_stand;
+      }
 
 -- AN UNREFUSED OFFER is answered and filed by the entry that it makes.
 record ByEntry (z : Sizes) (t : State) (o : Offer) (a : Answer) (u : State) (h : List Entry) : Type 0 where

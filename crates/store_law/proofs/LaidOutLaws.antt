@@ -1,12 +1,10 @@
 -- Calls on the layout of a proper state. The layout is as long as the sheet and is read back, and what is behind
 -- it is kept: a call answers what it answers to the state, and leaves the layout of the state afterwards.
 use Prim.Native.Nat.{ℕ, ◌+◌}
-use mathlib.Core.Path.{◌≡◌, refl, sym, ◌∙◌, ap}
-use mathlib.Core.List.{List, [], ◌++◌, append-nil, map}
+use mathlib.Core.Path.{◌≡◌, refl, ◌∙◌, ap}
+use mathlib.Core.List.{List, ◌++◌, map}
 use mathlib.Core.Bool.{cond}
-use native.Mathlib.Omega.{arith}
-use lib.ListN.{length, take, drop}
-use lib.Seq.{take_at}
+use lib.ListN.{length, drop}
 use Rattle.willow.specs.Entries.{ValidEntry}
 use Rattle.willow.specs.Lists.{All}
 use Rattle.willow.specs.Store.{Sizes, State, Call, answer, after}
@@ -58,10 +56,3 @@ module _ (z : Sizes) (t : State) (rest : List ℕ) (p : ProperStore z t) where
   laid_leaves c =
       laid_read (λ y u. store_layout y (after y u c) ++ drop (sheet_length (store_shape y)) bytes) _
       ∙ ap (λ l. store_layout z (after z t c) ++ l) laid_rest
-
--- THE SHEET ALONE.
-pub laid_size : (z : Sizes) (t : State) → ProperStore z t → length (store_layout z t) ≡ sheet_length (store_shape z)
-laid_size z t p = let l = ap length (sym (append-nil (store_layout z t))) ∙ laid_length z t [] p in omega arith
-
-pub laid_first : (z : Sizes) (t : State) (rest : List ℕ) → ProperStore z t → take (sheet_length (store_shape z)) (store_layout z t ++ rest) ≡ store_layout z t
-laid_first z t rest p = take_at (store_layout z t) rest (sheet_length (store_shape z)) (laid_size z t p)

@@ -1,9 +1,7 @@
 -- A store that has the invariant of a history, within its bounds, is proper where the entries of the history are valid: what is held
--- stands in the history. A call whose arguments are what their types say adds only a valid entry to it. And every proper store has the
--- invariant with its own entries for the history, before which the bytes that it let go were let go.
+-- stands in the history. A call whose arguments are what their types say adds only a valid entry to it.
 use Prim.Native.Nat.{ℕ, ◌≤◌}
 use mathlib.Core.Path.{◌≡◌, refl}
-use mathlib.Core.Logic.{inl}
 use mathlib.Core.List.{List, [], ◌∷◌}
 use mathlib.Core.Option.{Option, none, some}
 use mathlib.Core.Bool.{Bool, true, false, cond}
@@ -18,8 +16,8 @@ use Rattle.willow.specs.Paths.{Path}
 use Rattle.willow.specs.Store.{Sizes, State, fresh, Offer, Passed, Call, offer, Answer, is_refused, entry_with, entry_from, offered, answer, after}
 use Rattle.willow.proofs.AnswerLaws.{accepted_words}
 use Rattle.willow.proofs.Demand3Laws.{Inv, inv_fresh, step}
-use Rattle.willow.proofs.FilingLaws.{sorted_means, means_sorted}
-use Rattle.willow.proofs.ListLaws.{all_append, all_also, all_in, in_all}
+use Rattle.willow.proofs.FilingLaws.{sorted_means}
+use Rattle.willow.proofs.ListLaws.{all_append, all_in, in_all}
 use Rattle.willow.proofs.PackedLaws.{packed_form}
 use Rattle.store_form.specs.Stores.{Stands, ProperStore}
 
@@ -89,24 +87,3 @@ follows_step z base t h (offer o) a q f =
       within = k.1;
       valid = grown_valid z h o (answer z t (offer o)) (accepted_words z.limits a.limits) q f.valid;
     }
-
--- A PROPER STATE comes from its own entries.
-module _ (z : Sizes) (t : State) (p : ProperStore z t) where
-  pub accepted : AcceptedSizes z
-  accepted = record { limits = p.limits_accepted; capacity = p.capacity_accepted; namespace = p.namespace_word }
-
-  pub follows_own : Follows z t.let_go t t.entries
-  follows_own =
-      let h = p.held_sum in
-      record {
-        inv = record {
-          ascending = means_sorted t.entries p.ascending;
-          names = λ x i. (all_in (Stands z) t.entries p.entries_stand x i).of_store;
-          sound = λ x i. (i, λ o j. p.none_prunes o x j i);
-          cover = λ x i. inl i;
-          holds = p.held_sum;
-          whole = omega arith;
-        };
-        within = record { count = p.count; totals = p.totals };
-        valid = all_also (Stands z) (ValidEntry z.limits) (λ e s. s.valid) t.entries p.entries_stand;
-      }

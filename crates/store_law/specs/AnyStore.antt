@@ -4,14 +4,11 @@
 -- A sheet is lent by the caller, and whatever passes for a store is offered to. A store that holds nothing and has let bytes go, for
 -- one, is laid out as document 01 says, though an offer that lets bytes go leaves something held. Demand 1 is of every input, so the
 -- table is due there too.
-use Rattle.std.specs.Prelude.{ℕ, ◌+◌, ◌≡◌, ◌⊎◌, ◌↔◌, List, [], ◌∷◌, ◌++◌, true, false, drop}
-use Rattle.willow.specs.declared.Refusal.TheVariants.{BadSheet}
-use Rattle.willow.specs.Demand3.{Makes, offer_rows, ByTable}
+use Rattle.std.specs.Prelude.{ℕ, ◌+◌, ◌≡◌, ◌⊎◌, ◌↔◌, List, ◌++◌, true, false, drop}
+use Rattle.willow.specs.Demand3.{Makes, ByTable}
 use Rattle.willow.specs.Entries.{Entry, Prunes}
 use Rattle.willow.specs.Lists.{In}
-use Rattle.willow.specs.Numbers.{Bytes}
-use Rattle.willow.specs.Store.{Sizes, State, Offer, Passed, offer, Answer, refused, outdated, repeated, taken, is_refused, refused_with}
-use Rattle.willow.specs.Tables.{Row, ◌when◌, AnsweredBy}
+use Rattle.willow.specs.Store.{Sizes, State, Offer, Passed, offer, Answer, refused, outdated, repeated, taken, is_refused}
 use Rattle.sheet.specs.Rows.{sheet_length}
 use Rattle.store_form.specs.Stores.{store_shape, store_layout, ProperStore, IsStore}
 use Rattle.store_law.specs.Offers.{answer_in, leaves_in}
@@ -52,16 +49,3 @@ pub record OfferTo (s : List ℕ) (z : Sizes) (t : State) (o : Offer) : Type 0 w
 -- offer of zeros with an empty buffer.
 abbrev pub AnyStore : Type 0
 AnyStore = (s : List ℕ) (z : Sizes) (t : State) (o : Offer) → IsStore s z t → Passed o → OfferTo s z t o
-
--- THE TABLE OF AN OFFER, on any bytes. What a row asks of a store is asked of the one that the bytes begin with.
-abbrev pub store_in : List ℕ → (Sizes → State → Type 0) → Type 0
-store_in s Asked = (z : Sizes) × (t : State) × IsStore s z t × Asked z t
-
--- "2 BadSheet: a lent sheet is too short, breaks its layout below, or holds sizes over those bounds": there is none.
-abbrev pub bad_store : List ℕ → Row
-bad_store s = BadSheet when (store_in s (λ z t. Unit {0}) → ⊥)
-
--- The premises are what types say: the buffer holds bytes, and the arguments are in their bounds.
-abbrev pub OfferRefusals : Type 0
-OfferRefusals = (s : List ℕ) (o : Offer) → Bytes s → Passed o
-    → AnsweredBy (bad_store s ∷ offer_rows (store_in s) o) (refused_with (answer_in s (offer o)))

@@ -23,7 +23,7 @@ use Rattle.willow.specs.Limits.{max_word}
 use Rattle.willow.specs.Numbers.{Bytes}
 use Rattle.willow.specs.Orders.{is_greater, reverse, Total, Decides, AtMost, compare_numbers, compare_pairs, PairBelow, ListBelow}
 use Rattle.willow.specs.Paths.{Path, Valid, Prefix, Related, PathBelow, is_prefix_of, compare_paths}
-use Rattle.willow.specs.Ranges.{Range, InRange, NonEmpty, BoundsWithin, RangeBelow, IsIntersection, includes_range, intersection, compare_ranges}
+use Rattle.willow.specs.Ranges.{Range, InRange, NonEmpty, RangeBelow, IsIntersection, includes_range, intersection, compare_ranges}
 use Rattle.willow.proofs.Bools.{decided_false, conjunction_means}
 use Rattle.willow.proofs.OrderLaws.{less≢equal, less≢greater, equal≢greater, decides, numbers_total, numbers_decided, at_most_number, pairs_total, pairs_decided, keyed_total, keyed_decided}
 use Rattle.willow.proofs.PathLaws.{path_order, path_prefix, prefix_self, prefix_transitive, prefixes_related}
@@ -135,23 +135,6 @@ triplet_included a t = (
         (subspace_means a.subspace t.subspace)
         (conjunction_means (path_prefix.prefix_means a.path t.path) (number_ranges.value_included a.times t.time))
 
-every_subspace : (s u : AreaSubspace) → (includes_area_subspace s u ≡ true) ↔ ((i : ℕ) → InSubspace u i → InSubspace s i)
-every_subspace Any u = (λ e i h. tt, λ h. refl)
-every_subspace (Id i) Any = (λ e. absurd (false≢true e), λ h. absurd (two (h 0 tt) (h 1 tt)))
-  where
-    two : 0 ≡ i → 1 ≡ i → ⊥
-    two a b = omega arith
-every_subspace (Id i) (Id j) = (λ e k h. h ∙ sym (eqb-true i j e), λ h. eq-eqb i j (sym (h j refl)))
-
-bounds_included : (a b : Area) → (includes_area a b ≡ true)
-    ↔ (((i : ℕ) → InSubspace b.subspace i → InSubspace a.subspace i)
-    × (Prefix a.path b.path
-    × BoundsWithin ◌<◌ a.times b.times))
-unfolding includes_area
-bounds_included a b = conjunction_means
-    (every_subspace a.subspace b.subspace)
-    (conjunction_means (path_prefix.prefix_means a.path b.path) (number_ranges.bounds_included a.times b.times))
-
 module _ (L : Limits) where
   area_included : (a b : Area) → ValidArea L a → ValidArea L b → NonEmpty ◌<◌ b.times
       → (includes_area a b ≡ true) ↔ AreaIncluded L b a
@@ -200,15 +183,6 @@ almost_included : (a b : Area) → (almost_includes_area a b ≡ true)
     ↔ (NotTwoIds a.subspace b.subspace × (includes_area (with_any_subspace a) b ≡ true))
 unfolding almost_includes_area includes_area
 almost_included a b = conjunction_means (agree_means a.subspace b.subspace) Iff.rfl
-
-bounds_almost : (a b : Area) → (almost_includes_area a b ≡ true)
-    ↔ (NotTwoIds a.subspace b.subspace
-    × (Prefix a.path b.path
-    × BoundsWithin ◌<◌ a.times b.times))
-unfolding almost_includes_area
-bounds_almost a b = conjunction_means
-    (agree_means a.subspace b.subspace)
-    (conjunction_means (path_prefix.prefix_means a.path b.path) (number_ranges.bounds_included a.times b.times))
 
 almost_included_means : (L : Limits) (a b : Area) → ValidArea L a → ValidArea L b → NonEmpty ◌<◌ b.times
     → (almost_includes_area a b ≡ true)
@@ -484,14 +458,11 @@ pub area_laws : (L : Limits) → AreaLaws L
 area_laws L = record {
   triplet_included = triplet_included;
   area_included = area_included L;
-  bounds_included = bounds_included;
   almost_included = almost_included;
-  bounds_almost = bounds_almost;
   almost_included_means = almost_included_means L;
   intersected = areas_intersected;
   intersection_valid = intersection_valid L;
   longer_stands = longer_stands;
-  prunable_means = prunable_means;
   prunable_if = prunable_if L;
   prunable_only_if = prunable_only_if L;
   order_total = areas_total;

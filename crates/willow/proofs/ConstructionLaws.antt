@@ -268,12 +268,6 @@ unless_fit : (fit : Bool) (o : Outcome Path) → (o ≡ refused BadLengths → �
 unless_fit true o n = (λ e. absurd (n e), λ e. absurd (true≢false e))
 unless_fit false o n = (λ e. refl, λ e. refl)
 
-pub fits_means : (lengths bytes : List ℕ) → Bytes lengths → (lengths_fit lengths bytes ≡ true) ↔ ((p : Path) × Slices lengths bytes p)
-fits_means lengths bytes h = (
-  λ e. (cut (lengths_in lengths) bytes, read_slices lengths bytes (cut (lengths_in lengths) bytes) h (fit_slices lengths bytes e)),
-  λ s. slices_fit lengths bytes s.0 (slices_read lengths bytes s.0 s.1),
-)
-
 none_fit : (lengths bytes : List ℕ) → Bytes lengths → (lengths_fit lengths bytes ≡ false) ↔ ((p : Path) → Slices lengths bytes p → ⊥)
 none_fit lengths bytes h =
     let d = decided_false (lengths_fit lengths bytes) (fit_means lengths bytes) in

@@ -1,9 +1,8 @@
 -- Demand 3, on states. An invariant joins the state to the history: the state ascends by place, holds only what stays, and
 -- covers the history (each of its entries is held, or one held prunes it). Each answer keeps it; and a state that has it is
--- the one that the history gives, by demand 3's words and computed. There is one such state: an ascending list is known by its
--- members, and a sum by its elements.
+-- the one that the history gives.
 use Prim.Native.Nat.{ℕ, ◌+◌, ◌≤◌}
-use mathlib.Core.Path.{◌≡◌, refl, sym, ◌∙◌, ap}
+use mathlib.Core.Path.{◌≡◌, refl, sym, ◌∙◌, ap, subst}
 use mathlib.Core.Logic.{◌⊎◌, inl, inr, ◌↔◌}
 use mathlib.Core.List.{List, [], ◌∷◌, ◌++◌}
 use mathlib.Core.Option.{Option, none, some}
@@ -15,7 +14,7 @@ use borrow.Author.Tests.{not-true, eqb-true, eqb-false, ltb-false}
 use Rattle.willow.specs.declared.Order.TheVariants.{Less, Equal}
 use Rattle.willow.specs.declared.Refusal.{Refusal}
 use Rattle.willow.specs.declared.Refusal.TheVariants.{WrongNamespace}
-use Rattle.willow.specs.Demand3.{Past, nothing_yet, with_entry, grown, history, pruned, file_all, kept, lost, given, Stays, Goes, GivenBy, Answered, CallPassed, OneGiven, Computed, Within, Demand3, Demand3OnStates}
+use Rattle.willow.specs.Demand3.{with_entry, grown, history, pruned, file_all, kept, lost, given, Stays, Goes, GivenBy, ByTable, Answered, CallPassed, Within, Demand3, Demand3OnStates}
 use Rattle.willow.specs.Entries.{Entry, Prunes, prunes, same_entry, compare_places}
 use Rattle.willow.specs.Limits.{max_word, Words}
 use Rattle.willow.specs.Lists.{In, All, Sum, any, filter}
@@ -24,9 +23,9 @@ use Rattle.willow.specs.Paths.{Path}
 use Rattle.willow.specs.Store.{Sizes, State, fresh, Offer, Call, offer, Answer, refused, outdated, repeated, taken, is_refused, entry_with, entry_from, offered, payloads, pruned_by, left_by, file, answer_by, answer_entry, answer_offered, answer, after_answer, after_offered, after, run, answers}
 use Rattle.willow.proofs.Bools.{decided_false}
 use Rattle.willow.proofs.EntryLaws.{prunes_means, prunes_fails, prunes_irreflexive, prunes_transitive, same_means, one_place}
-use Rattle.willow.proofs.FilingLaws.{Sorted, sorted_means, means_sorted, file_in, in_file_new, in_file_old, file_sorted, file_length, file_payloads, filter_payloads, payloads_snoc, sorted_unique, file_all_sorted, file_all_in, in_file, in_file_all}
-use Rattle.willow.proofs.HistoryLaws.{grown_past, offer_leads, history_passed}
-use Rattle.willow.proofs.ListLaws.{any_means, sum_unique, filter_in, in_filter, filter_ascending, filter_lengths, in_left, in_last, in_snoc}
+use Rattle.willow.proofs.FilingLaws.{Sorted, sorted_means, file_in, in_file_new, in_file_old, file_sorted, file_length, file_payloads, filter_payloads, payloads_snoc, sorted_unique, file_all_sorted, file_all_in, in_file, in_file_all}
+use Rattle.willow.proofs.HistoryLaws.{history_passed}
+use Rattle.willow.proofs.ListLaws.{any_means, filter_in, in_filter, filter_ascending, filter_lengths, in_left, in_last, in_snoc}
 use Rattle.willow.proofs.TableLaws.{by_table}
 
 -- HOW AN ANSWER COMES ABOUT, for an entry.
@@ -349,28 +348,7 @@ module _ (ns : ℕ) (h : List Entry) (names : (x : Entry) → In x h → x.names
           stayed (inl i) = (decided_false (any (λ o. same_entry o e) earlier) (repeat_means earlier e)).0 er i
           stayed (inr g) = (decided_false (pruned h e) (pruned_means e)).0 ep g
 
-  -- so demand 3's words hold of the state that is computed
-  pub given_means : (base : ℕ) → GivenBy base h (given base h)
-  unfolding given
-  given_means base = record {
-    ascending = sorted_means (kept h) kept_sorted;
-    entries = λ x. (λ i. (stays_means x).0 (kept_unpruned x i), λ k. unpruned_kept x ((stays_means x).1 k));
-    held = refl;
-    let_go = (lost h [] h, refl, lost_means [] h);
-    whole = omega (arith, whole_is);
-  }
-
--- ONE STATE.
-pub one_given : OneGiven
-one_given base h s t a b =
-    let entries = sorted_unique s.entries t.entries (means_sorted s.entries a.ascending) (means_sorted t.entries b.ascending)
-    (λ x i. (b.entries x).1 ((a.entries x).0 i)) (λ x i. (a.entries x).1 ((b.entries x).0 i)) in
-    let held = a.held ∙ ap payloads entries ∙ sym b.held in
-    let gone = sum_unique (λ e. e.payload_length) (Goes h) [] h a.let_go.0 b.let_go.0 a.let_go.2 b.let_go.2 in
-    let let_go = a.let_go.1 ∙ ap (λ n. base + n) gone ∙ sym b.let_go.1 in
-    λ i. record { entries = entries i; held = held i; let_go = let_go i }
-
--- A STATE WITH THE INVARIANT IS THE ONE THAT THE HISTORY GIVES.
+-- A STATE WITH THE INVARIANT IS THE ONE THAT THE HISTORY GIVES, computed and in the demand's words.
 module _ (z : Sizes) (base : ℕ) (s : State) (h : List Entry) (v : Inv z base s h) where
   held_stays : (x : Entry) → In x s.entries ↔ Stays h x
   held_stays x = (v.sound x, λ k. elim (v.cover x k.0) [ inl i ↦ i | inr g ↦ absurd (k.1 g.0 (v.sound g.0 g.1).0 g.2) ])
@@ -386,6 +364,10 @@ module _ (z : Sizes) (base : ℕ) (s : State) (h : List Entry) (v : Inv z base s
   let_go_given : s.let_go ≡ base + lost h [] h
   let_go_given = let a = v.whole in omega (arith, held_given, whole_is z.namespace h v.names)
 
+  pub state_given : s ≡ given base h
+  unfolding given
+  state_given = λ i. record { entries = entries_given i; held = held_given i; let_go = let_go_given i }
+
   pub given_by : GivenBy base h s
   given_by = record {
     ascending = sorted_means s.entries v.ascending;
@@ -395,45 +377,29 @@ module _ (z : Sizes) (base : ℕ) (s : State) (h : List Entry) (v : Inv z base s
     whole = v.whole;
   }
 
-  pub state_given : s ≡ given base h
-  state_given = one_given base h s (given base h) given_by (given_means z.namespace h v.names base)
-
 -- EACH CALL IS ANSWERED BY THE TABLE.
-pub answered : (z : Sizes) (p : Past) (s : State) (cs : List Call) → Words z.limits → All CallPassed cs
-    → Inv z p.base s p.history → Within z s → Answered z p cs (answers z s cs)
-answered z p s [] w a v x = tt
-answered z p s (offer o ∷ cs) w a v x =
-    let k = step z p.base s p.history v x o in
-    let q : Past = grown_past z p (offer o) (answer z s (offer o)) in (
-      record { before = s; given_before = given_by z p.base s p.history v; by_table = by_table z s o w a.0 },
-      (q, offer_leads z p o s w a.0, answered z q (after z s (offer o)) cs w a.1 k.0 k.1),
+pub answered : (z : Sizes) (base : ℕ) → Words z.limits → (cs : List Call) (s : State) (h : List Entry) → All CallPassed cs → Inv z base s h → Within z s
+    → Answered z base h cs (answers z s cs)
+answered z base w [] s h a v x = tt
+answered z base w (offer o ∷ cs) s h a v x =
+    let k = step z base s h v x o in (
+      subst (λ t. ByTable z t o (answer z s (offer o))) (state_given z base s h v) (by_table z s o w a.0),
+      answered z base w cs (after z s (offer o)) (grown z h (offer o) (answer z s (offer o))) a.1 k.0 k.1,
     )
 
 -- THEOREM 9, on states, from any state that has the invariant; and from a fresh store.
-pub demand3_from : (z : Sizes) (p : Past) (s : State) (cs : List Call) → Words z.limits → All CallPassed cs
-    → Inv z p.base s p.history → Within z s → Demand3 z p s cs
-demand3_from z p s cs w a v x =
-    let k = inv_run z p.base cs s p.history v x in
+pub demand3_from : (z : Sizes) (base : ℕ) (h : List Entry) (s : State) (cs : List Call) → Words z.limits → All CallPassed cs → Inv z base s h → Within z s
+    → Demand3 z base h s cs
+demand3_from z base h s cs w a v x =
+    let k = inv_run z base cs s h v x in
+    let g = history z h cs (answers z s cs) in
     record {
-      last = record { base = p.base; history = history z p.history cs (answers z s cs) };
-      passed = history_passed z p s cs w a;
-      table = answered z p s cs w a v x;
-      means = given_by z p.base (run z s cs) (history z p.history cs (answers z s cs)) k.0;
+      state = state_given z base (run z s cs) g k.0;
+      passed = history_passed z w cs s h a;
+      table = answered z base w cs s h a v x;
+      means = given_by z base (run z s cs) g k.0;
       within = k.1;
     }
 
-within_fresh : (z : Sizes) → Within z fresh
-within_fresh z = record { count = omega arith; totals = omega arith }
-
 pub demand3 : Demand3OnStates
-demand3 z cs w a = demand3_from z nothing_yet fresh cs w a (inv_fresh z) (within_fresh z)
-
--- WHAT IS COMPUTED.
-pub computed : Computed
-computed = record {
-  state = λ ns base h names. given_means ns h names base;
-  passed = history_passed;
-  run_given = λ z cs.
-      let v = (inv_run z 0 cs fresh [] (inv_fresh z) (within_fresh z)).0 in
-      state_given z 0 (run z fresh cs) (history z [] cs (answers z fresh cs)) v;
-}
+demand3 z cs w a = demand3_from z 0 [] fresh cs w a (inv_fresh z) (record { count = omega arith; totals = omega arith })

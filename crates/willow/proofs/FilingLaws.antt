@@ -26,10 +26,6 @@ pub sorted_means : (l : List Entry) → Sorted l → Ascending PlaceBelow l
 sorted_means [] s = tt
 sorted_means (x ∷ xs) s = (λ y i. (places_means x y).0 (s.0 y i), sorted_means xs s.1)
 
-pub means_sorted : (l : List Entry) → Ascending PlaceBelow l → Sorted l
-means_sorted [] a = tt
-means_sorted (x ∷ xs) a = (λ y i. (places_means x y).1 (a.0 y i), means_sorted xs a.1)
-
 place_flip : (x y : Entry) → compare_places y x ≡ reverse (compare_places x y)
 place_flip x y = places_total.flip (place x) (place y)
 

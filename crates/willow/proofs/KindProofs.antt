@@ -1,12 +1,12 @@
 -- A kind says something exactly if it is 0 or 1: by the two tests, one after the other.
 use Prim.Native.Nat.{ℕ}
 use mathlib.Core.Path.{◌≡◌, refl}
-use mathlib.Core.Logic.{◌⊎◌, inl, inr, ⊎_elim, ◌↔◌}
+use mathlib.Core.Logic.{◌⊎◌, inl, inr, ◌↔◌}
 use mathlib.Core.Option.{Option, none, some}
 use mathlib.Core.Bool.{Bool, true, false, cond}
 use native.Mathlib.Omega.{arith}
 use lib.Dec.{eqb}
-use borrow.Author.Tests.{eqb-true, eqb-false}
+use borrow.Author.Tests.{eqb-true}
 use Rattle.willow.specs.Kinds.{of_kind, Says, GoodKind, KindLaws}
 
 module _ {A : Type 0} (kind : ℕ) (x y : A) where
@@ -36,15 +36,6 @@ module _ {A : Type 0} (kind : ℕ) (x y : A) where
       go true t f g = absurd (n (inl (eqb-true kind 0 f)))
       go false true f g = absurd (n (inr (eqb-true kind 1 g)))
       go false false f g = refl
-
--- A kind is a good one or is not.
-pub kind_decided : (kind : ℕ) → GoodKind kind ⊎ (GoodKind kind → ⊥)
-kind_decided kind = go (eqb kind 0) (eqb kind 1) refl refl
-  where
-    go : (s t : Bool) → eqb kind 0 ≡ s → eqb kind 1 ≡ t → GoodKind kind ⊎ (GoodKind kind → ⊥)
-    go true t f g = inl (inl (eqb-true kind 0 f))
-    go false true f g = inl (inr (eqb-true kind 1 g))
-    go false false f g = inr (λ h. ⊎_elim (eqb-false kind 0 f) (eqb-false kind 1 g) h)
 
 -- A kind that says something is a good one.
 pub says_good : {A : Type 0} (kind : ℕ) (x y v : A) → Says kind x y v → GoodKind kind

@@ -21,7 +21,3 @@ pub mod ValidLaws
 pub mod PackedPlaces
 pub mod ConstructionLaws
 pub mod AnswerLaws
-pub mod Rows
-pub mod KnownRangeLaws
-pub mod BufferLaws
-pub mod RefusalLaws

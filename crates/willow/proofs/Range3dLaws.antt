@@ -7,17 +7,17 @@ use mathlib.Core.Option.{Option, none, some}
 use mathlib.Core.Bool.{Bool, true, false, ◌||◌, cond}
 use native.Mathlib.Omega.{arith}
 use lib.Dec.{ltb}
-use borrow.Author.Tests.{ltb-true, ltb-false}
+use borrow.Author.Tests.{ltb-false}
 use Rattle.willow.specs.declared.AreaSubspace.{AreaSubspace}
 use Rattle.willow.specs.declared.AreaSubspace.TheVariants.{Any, Id}
 use Rattle.willow.specs.declared.Limits.{Limits}
 use Rattle.willow.specs.declared.Order.{Order}
 use Rattle.willow.specs.Areas.{Triplet, ValidTriplet, Area, SubspaceWord, ValidArea, InSubspace, InArea, PrunesSome}
-use Rattle.willow.specs.LeastPaths.{Least, GreaterNotPrefixed, next_greater}
+use Rattle.willow.specs.LeastPaths.{next_greater}
 use Rattle.willow.specs.Limits.{max_word}
 use Rattle.willow.specs.Orders.{Total, Decides, AtMost, compare_numbers, compare_pairs, PairBelow}
 use Rattle.willow.specs.Paths.{Path, Valid, Prefix, PathBelow, is_prefix_of, compare_paths}
-use Rattle.willow.specs.Ranges.{closed, endless, Range, EndHas, NonEmpty, BoundsWithin, BeforeEnd, InRange, RangeBelow, IsIntersection, includes, includes_range, intersection, compare_ranges}
+use Rattle.willow.specs.Ranges.{closed, endless, Range, BeforeEnd, InRange, RangeBelow, IsIntersection, includes, includes_range, intersection, compare_ranges}
 use Rattle.willow.specs.Ranges3d.{Range3d, ValidRange3d, InRange3d, NonEmpty3d, Range3dIncluded, IsIntersection3d, PrunableByRule, Range3dBelow, includes_triplet3d, includes_range3d, range3d_of, intersection3d, range3d_prunable, subspace_range, end_at, range3d_from, range3d_key, compare_ranges3d, Range3dLaws}
 use Rattle.willow.proofs.Bools.{decided, conjunction_means, disjunction_means}
 use Rattle.willow.proofs.OrderLaws.{numbers_total, numbers_decided, below_cases, below_irreflexive, at_most_below, at_most_number, pairs_total, pairs_decided, keyed_total, keyed_decided}
@@ -102,13 +102,6 @@ module _ (L : Limits) where
               ).time,
         ),
       )
-
-bounds_included : (L : Limits) (r s : Range3d) → (includes_range3d r s ≡ true)
-    ↔ (BoundsWithin ◌<◌ r.subspaces s.subspaces × (BoundsWithin PathBelow r.paths s.paths × BoundsWithin ◌<◌ r.times s.times))
-unfolding includes_range3d
-bounds_included L r s = conjunction_means
-    (number_ranges.bounds_included r.subspaces s.subspaces)
-    (conjunction_means ((path_ranges L).bounds_included r.paths s.paths) (number_ranges.bounds_included r.times s.times))
 
 -- INTERSECTION.
 intersected : (r s : Range3d) → IsIntersection3d r s (intersection3d r s)
@@ -306,64 +299,16 @@ order_means =
     (ranges_decided compare_numbers ◌<◌ numbers_total numbers_decided)
     rest_decided)
 
--- AN AREA AS A 3D RANGE is one of valid bounds, each start below its end.
-module _ (L : Limits) where
-  id_start : (s : AreaSubspace) → SubspaceWord s → (subspace_range s).start ≤ max_word
-  id_start Any w = omega arith
-  id_start (Id i) w = w
-
-  id_end : (s : AreaSubspace) → SubspaceWord s → EndHas (λ n. n ≤ max_word) (subspace_range s).end
-  id_end Any w = tt
-  id_end (Id i) w = go (ltb i max_word) refl
-    where
-      go : (b : Bool) → ltb i max_word ≡ b → EndHas (λ n. n ≤ max_word) (cond b (closed (suc i)) endless)
-      go true e = ltb-true i max_word e
-      go false e = tt
-
-  id_nonempty : (s : AreaSubspace) → NonEmpty ◌<◌ (subspace_range s)
-  id_nonempty Any = tt
-  id_nonempty (Id i) = go (ltb i max_word)
-    where
-      go : (b : Bool) → BeforeEnd ◌<◌ i (cond b (closed (suc i)) endless)
-      go true = omega arith
-      go false = tt
-
-  next_valid : (p : Path) (n : Option Path) → Least (GreaterNotPrefixed L p) n → EndHas (Valid L) (end_at n) × BeforeEnd PathBelow p (end_at n)
-  next_valid p none h = (tt, tt)
-  next_valid p (some q) h = (h.0.0, h.0.1)
-
-  area_valid : (a : Area) → ValidArea L a → ValidRange3d L (range3d_from L a)
-  unfolding range3d_from
-  area_valid a v = record {
-    subspace_start = id_start a.subspace v.subspace_word;
-    subspace_end = id_end a.subspace v.subspace_word;
-    path_start = v.path_valid;
-    path_end_lem = (next_valid a.path (next_greater L a.path) ((least_paths L).next_greater_lem a.path v.path_valid)).0;
-    time_start = v.start_word;
-    time_end = v.end_word;
-  }
-
-  area_nonempty : (a : Area) → ValidArea L a → NonEmpty ◌<◌ a.times → NonEmpty3d (range3d_from L a)
-  unfolding range3d_from
-  area_nonempty a v n = record {
-    subspaces = id_nonempty a.subspace;
-    paths = (next_valid a.path (next_greater L a.path) ((least_paths L).next_greater_lem a.path v.path_valid)).1;
-    times = n;
-  }
-
 -- THEOREM 7, on 3d ranges.
 pub range3d_laws : (L : Limits) → Range3dLaws L
 range3d_laws L = record {
   triplet_included = triplet_included;
   range_included = range_included L;
-  bounds_included = bounds_included L;
   intersected = intersected;
   intersection_valid = intersection_valid L;
   prunable_means = prunable_means;
   prunable_if = prunable_if L;
   area_triplets = area_triplets L;
-  area_valid = area_valid L;
-  area_nonempty = area_nonempty L;
   order_total = order_total;
   order_means = order_means;
 }

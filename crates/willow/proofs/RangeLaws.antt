@@ -117,7 +117,7 @@ module _ {A : Type 0} (compare : A → A → Order) (Below : A → A → Type 0)
       (pairs_decided compare (compare_ends compare) t (ends_total compare t) Below (EndBelow Below) d ends_decided)
 
   -- the test of an end
-  pub above_means : (e : End A) (x : A) → (end_above compare e x ≡ true) ↔ BeforeEnd Below x e
+  above_means : (e : End A) (x : A) → (end_above compare e x ≡ true) ↔ BeforeEnd Below x e
   above_means (closed e) x = greater_means compare Below d e x
   above_means endless x = (λ h. tt, λ h. refl)
 

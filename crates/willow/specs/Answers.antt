@@ -1,5 +1,5 @@
 -- How calls answer: refusals in the order of their tests, questions on lent paths, and answers written into a lent buffer.
-use Rattle.std.specs.Prelude.{ℕ, ◌≡◌, List, [], ◌∷◌, ◌++◌, Bool, true, false, cond, leb, length, take, drop}
+use Rattle.std.specs.Prelude.{ℕ, ◌≡◌, List, ◌++◌, Bool, true, false, cond, leb, length, take, drop}
 use Rattle.std.proofs.Math.Option.{Option, none, some}
 use Rattle.willow.specs.declared.Asked.{Asked}
 use Rattle.willow.specs.declared.Asked.TheVariants as asked
@@ -18,8 +18,6 @@ use Rattle.willow.specs.Numbers.{Bytes}
 use Rattle.willow.specs.Packed.{pack, unpack, lent, Lent}
 use Rattle.willow.specs.Paths.{Path}
 use Rattle.willow.specs.Refusals.{Outcome, refused, absent, value}
-use Rattle.willow.specs.TableRows.{lent_rows}
-use Rattle.willow.specs.Tables.{AnsweredBy, refusal_of}
 
 -- WHAT THE CASES OF THE SHARED ANSWERS MEAN.
 abbrev pub tested_refusal : Tested → Option Refusal
@@ -40,7 +38,7 @@ counted_outcome (counted.Refused r) = refused r
 counted_outcome counted.Nothing = absent
 counted_outcome (counted.Count n) = value n
 
--- TESTS ONE BEHIND THE OTHER: the refusal of the one that comes first. Which comes first is judged by the order of Tables.antt.
+-- THE ORDER OF THE TESTS. "When several numbers apply, the smallest is given": the refusal of the test that comes first.
 abbrev pub or_else : Option Refusal → Option Refusal → Option Refusal
 or_else (some r) later = some r
 or_else none later = later
@@ -104,17 +102,19 @@ packed_outcome (refused r) = refused r
 packed_outcome absent = absent
 packed_outcome (value p) = value (pack p)
 
--- WHAT THE QUESTIONS MEAN. The tests of lent paths are answered by the table, and what they refuse is refused, whatever is asked; else
--- the question is asked of the paths that are lent. The premise is that a buffer holds bytes, as an empty one does.
+-- WHAT THE QUESTIONS MEAN: 1 exactly if the limits are not accepted, then 5 exactly if no path is lent, else the question on
+-- the path that is lent. The premise is that a buffer holds bytes, as an empty one does.
 pub record PathQuestions : Type 1 where
-  pub one_tested : (L : Limits) (b : List ℕ) (k : ℕ) → Bytes b → AnsweredBy (lent_rows L ((b, k) ∷ [])) (path_refusal L b k)
-  pub one_refused : {A : Type 0} (L : Limits) (b : List ℕ) (k : ℕ) (f : Path → Outcome A) (r : Refusal)
-      → path_refusal L b k ≡ some r → on_path L b k f ≡ refused r
+  pub one_limits : {A : Type 0} (L : Limits) (b : List ℕ) (k : ℕ) (f : Path → Outcome A) → (Accepted L → ⊥) → on_path L b k f ≡ refused BadLimits
+  pub one_path : {A : Type 0} (L : Limits) (b : List ℕ) (k : ℕ) (f : Path → Outcome A) → Bytes b → Accepted L
+      → ((p : Path) → Lent L b k p → ⊥) → on_path L b k f ≡ refused BadPath
   pub one_asked : {A : Type 0} (L : Limits) (b : List ℕ) (k : ℕ) (f : Path → Outcome A) → Bytes b → Accepted L
       → (p : Path) → Lent L b k p → on_path L b k f ≡ f p
-  pub two_tested : (L : Limits) (a : List ℕ) (j : ℕ) (b : List ℕ) (k : ℕ) → Bytes a → Bytes b
-      → AnsweredBy (lent_rows L ((a, j) ∷ (b, k) ∷ [])) (paths_refusal L a j b k)
-  pub two_refused : {A : Type 0} (L : Limits) (a : List ℕ) (j : ℕ) (b : List ℕ) (k : ℕ) (f : Path → Path → Outcome A) (r : Refusal)
-      → paths_refusal L a j b k ≡ some r → on_paths L a j b k f ≡ refused r
+  pub two_limits : {A : Type 0} (L : Limits) (a : List ℕ) (j : ℕ) (b : List ℕ) (k : ℕ) (f : Path → Path → Outcome A) → (Accepted L → ⊥)
+      → on_paths L a j b k f ≡ refused BadLimits
+  pub two_first : {A : Type 0} (L : Limits) (a : List ℕ) (j : ℕ) (b : List ℕ) (k : ℕ) (f : Path → Path → Outcome A) → Bytes a → Accepted L
+      → ((p : Path) → Lent L a j p → ⊥) → on_paths L a j b k f ≡ refused BadPath
+  pub two_second : {A : Type 0} (L : Limits) (a : List ℕ) (j : ℕ) (b : List ℕ) (k : ℕ) (f : Path → Path → Outcome A) → Bytes a → Bytes b
+      → Accepted L → ((q : Path) → Lent L b k q → ⊥) → on_paths L a j b k f ≡ refused BadPath
   pub two_asked : {A : Type 0} (L : Limits) (a : List ℕ) (j : ℕ) (b : List ℕ) (k : ℕ) (f : Path → Path → Outcome A) → Bytes a → Bytes b
       → Accepted L → (p q : Path) → Lent L a j p → Lent L b k q → on_paths L a j b k f ≡ f p q

@@ -10,8 +10,8 @@ use Rattle.willow.specs.Entries.{Entry, Prunes, ValidEntry}
 use Rattle.willow.specs.Kinds.{of_kind}
 use Rattle.willow.specs.Limits.{max_word}
 use Rattle.willow.specs.Orders.{is_greater, Total, Decides, compare_numbers, compare_pairs, PairBelow}
-use Rattle.willow.specs.Paths.{Path, Valid, Prefix, Related, PathBelow, is_prefix_of, is_related, compare_paths}
-use Rattle.willow.specs.Ranges.{endless, Range, EndHas, InRange, NonEmpty, BoundsWithin, RangeBelow, includes, includes_range, intersection, compare_ranges}
+use Rattle.willow.specs.Paths.{Path, Valid, Prefix, PathBelow, is_prefix_of, is_related, compare_paths}
+use Rattle.willow.specs.Ranges.{endless, Range, EndHas, InRange, NonEmpty, RangeBelow, includes, includes_range, intersection, compare_ranges}
 
 -- Where an entry stands: its subspace id, its path, its timestamp.
 pub record Triplet : Type 0 where
@@ -215,16 +215,8 @@ pub record AreaLaws (L : Limits) : Type 0 where
   pub triplet_included : (a : Area) (t : Triplet) → (includes_triplet a t ≡ true) ↔ InArea a t
   pub area_included : (a b : Area) → ValidArea L a → ValidArea L b → NonEmpty ◌<◌ b.times
       → (includes_area a b ≡ true) ↔ AreaIncluded L b a
-  pub bounds_included : (a b : Area) → (includes_area a b ≡ true)
-      ↔ (((i : ℕ) → InSubspace b.subspace i → InSubspace a.subspace i)
-      × (Prefix a.path b.path
-      × BoundsWithin ◌<◌ a.times b.times))
   pub almost_included : (a b : Area) → (almost_includes_area a b ≡ true)
       ↔ (NotTwoIds a.subspace b.subspace × (includes_area (with_any_subspace a) b ≡ true))
-  pub bounds_almost : (a b : Area) → (almost_includes_area a b ≡ true)
-      ↔ (NotTwoIds a.subspace b.subspace
-      × (Prefix a.path b.path
-      × BoundsWithin ◌<◌ a.times b.times))
   pub almost_included_means : (a b : Area) → ValidArea L a → ValidArea L b → NonEmpty ◌<◌ b.times
       → (almost_includes_area a b ≡ true)
       ↔ (NotTwoIds a.subspace b.subspace × AreaIncluded L b (with_any_subspace a))
@@ -232,8 +224,6 @@ pub record AreaLaws (L : Limits) : Type 0 where
   pub intersection_valid : (a b m : Area) → ValidArea L a → ValidArea L b → area_intersection a b ≡ some m
       → ValidArea L m × NonEmpty ◌<◌ m.times
   pub longer_stands : (a b m : Area) → area_intersection a b ≡ some m → Prefix a.path m.path × Prefix b.path m.path
-  pub prunable_means : (a : Area) (t : Triplet) → (area_prunable a t ≡ true)
-      ↔ (InSubspace a.subspace t.subspace × ((a.times.start ≤ t.time) × Related t.path a.path))
   pub prunable_if : (a : Area) (t : Triplet) → PrunesSome L (InArea a) t → area_prunable a t ≡ true
   pub prunable_only_if : (a : Area) (t : Triplet) → ValidArea L a → ValidTriplet L t → NonEmpty ◌<◌ a.times
       → area_prunable a t ≡ true → PrunesSome L (InArea a) t

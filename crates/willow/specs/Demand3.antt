@@ -1,6 +1,4 @@
--- DEMAND 3, on states: what every list of calls leaves of a store, and what each of them is answered. A reader of the claim needs
--- `GivenBy`, `ByTable`, `Leads`, `AnsweredAt` and the record `Demand3` at the end; what is computed beside them (`history`, `given`)
--- serves the proofs, and `Computed` says that it is what is meant.
+-- DEMAND 3, on states: what every list of calls to a fresh store leaves, and what each of them is answered.
 use Rattle.std.specs.Prelude.{ℕ, ◌+◌, ◌-◌, ◌≤◌, ◌<◌, ◌≡◌, ◌⊎◌, ◌↔◌, List, [], ◌∷◌, ◌++◌, Bool, ◌||◌, not, cond, length}
 use Rattle.std.proofs.Math.Option.{Option, none, some}
 use Rattle.willow.specs.declared.Refusal.{Refusal}
@@ -10,21 +8,10 @@ use Rattle.willow.specs.Limits.{max_word, Words}
 use Rattle.willow.specs.Lists.{In, All, Ascending, Sum, Number, any, filter}
 use Rattle.willow.specs.Packed.{Lent}
 use Rattle.willow.specs.Paths.{Path}
-use Rattle.willow.specs.Tables.{Row, ◌when◌, AnsweredBy}
-use Rattle.willow.specs.Store.{Sizes, State, fresh, Offer, Passed, Call, offer, Answer, refused, outdated, repeated, taken, is_refused, refused_with, entry_with, offered, payloads, file, run, answers}
+use Rattle.willow.specs.Store.{Sizes, State, fresh, Offer, Passed, Call, offer, Answer, refused, outdated, repeated, taken, is_refused, entry_with, offered, payloads, file, run, answers}
 
--- THE PAST of a store, from where a history begins: the bytes that had been let go by then, and the entries of the history, the
--- earliest first. The past is carried along a list of calls, so that a history can begin in the middle: at a store that somebody
--- lends, of which nothing is known but what stands in its sheet.
-pub record Past : Type 0 where
-  pub base : ℕ
-  pub history : List Entry
-
--- Of a fresh store there is none.
-abbrev pub nothing_yet : Past
-nothing_yet = record { base = 0; history = [] }
-
--- THE HISTORY, COMPUTED. The entry of a call, behind a history:
+-- THE HISTORY. "The history is the unrefused offers in list order, taken from what was passed to them." The entry of a call
+-- that was answered so, behind a history:
 abbrev pub with_entry : List Entry → Option Entry → List Entry
 with_entry h none = h
 with_entry h (some e) = h ++ (e ∷ [])
@@ -69,7 +56,7 @@ Stays h e = In e h × ((o : Entry) → In o h → Prunes o e → ⊥)
 abbrev pub Goes : List Entry → List Entry → Entry → Type 0
 Goes h earlier e = In e earlier ⊎ ((o : Entry) × In o h × Prunes o e)
 
--- A state is the one that demand 3 gives for the history h, in the demand's own words, if `base` bytes had been let go before it began.
+-- A state is the one that demand 3 gives for the history h, in the demand's own words.
 pub record GivenBy (base : ℕ) (h : List Entry) (s : State) : Type 0 where
   -- "by subspace and then path", and so "each one time"
   pub ascending : Ascending PlaceBelow s.entries
@@ -96,8 +83,8 @@ abbrev pub Makes : Sizes → Offer → Entry → Type 0
 Makes z o e = (o.namespace ≡ z.namespace) × ((p : Path) × Lent z.limits o.buffer o.count p × (e ≡ entry_with o p))
 
 -- 13: "held bytes plus let-go bytes plus the offered payload length pass 2^64 − 1".
-abbrev pub Full : State → Offer → Type 0
-Full t o = max_word < t.held + t.let_go + o.payload_length
+abbrev pub Full : State → Entry → Type 0
+Full t e = max_word < t.held + t.let_go + e.payload_length
 
 -- "Outdated if a held entry prunes the offer."
 abbrev pub Outdated : State → Entry → Type 0
@@ -107,131 +94,74 @@ Outdated t e = (h : Entry) × In h t.entries × Prunes h e
 abbrev pub Repeat : State → Entry → Type 0
 Repeat t e = In e t.entries
 
--- 14: "held, less the entries that the offer prunes, is N, and the offer is neither outdated nor a repeat".
+-- 14: "held, less the entries that the offer prunes, is N".
 abbrev pub Crowded : Sizes → State → Entry → Type 0
 Crowded z t e = (k : ℕ) × Number (Prunes e) t.entries k × (length t.entries - k ≡ z.capacity)
-
-abbrev pub RoomMissing : Sizes → State → Offer → Type 0
-RoomMissing z t o = (e : Entry) × Makes z o e × Crowded z t e × (Outdated t e → ⊥) × (Repeat t e → ⊥)
-
--- THE ROWS of an offer, each named once. `Of` says of which store they are asked: of one in a state, or of the one that bytes begin
--- with, if they begin with one (`store_in` of crate store_law).
-abbrev pub wrong_namespace : ((Sizes → State → Type 0) → Type 0) → Offer → Row
-wrong_namespace Of o = WrongNamespace when Of (λ z t. OtherNamespace z o)
-
-abbrev pub bad_offered_path : ((Sizes → State → Type 0) → Type 0) → Offer → Row
-bad_offered_path Of o = BadPath when Of (λ z t. NoPath z o)
-
-abbrev pub total_full : ((Sizes → State → Type 0) → Type 0) → Offer → Row
-total_full Of o = TotalFull when Of (λ z t. Full t o)
-
-abbrev pub no_room : ((Sizes → State → Type 0) → Type 0) → Offer → Row
-no_room Of o = NoRoom when Of (λ z t. RoomMissing z t o)
-
-abbrev pub offer_rows : ((Sizes → State → Type 0) → Type 0) → Offer → List Row
-offer_rows Of o = wrong_namespace Of o ∷ bad_offered_path Of o ∷ total_full Of o ∷ no_room Of o ∷ []
-
-abbrev pub store_at : Sizes → State → (Sizes → State → Type 0) → Type 0
-store_at z t Asked = Asked z t
-
--- "Offering answers outdated if a held entry prunes the offer, repeat if one equals it in every field, else taken, with how many
--- it pruned."
-abbrev pub Tells : State → Entry → Answer → Type 0
-Tells t e (refused r) = ⊥
-Tells t e outdated = Outdated t e
-Tells t e repeated = (Outdated t e → ⊥) × Repeat t e
-Tells t e (taken k) = (Outdated t e → ⊥) × (Repeat t e → ⊥) × Number (Prunes e) t.entries k
-
--- An offer is refused by the table; and one that is not refused makes an entry, and is answered for it.
-pub record ByTable (z : Sizes) (t : State) (o : Offer) (a : Answer) : Type 0 where
-  pub refusals : AnsweredBy (offer_rows (store_at z t) o) (refused_with a)
-  pub told : refused_with a ≡ none → (e : Entry) × Makes z o e × Tells t e a
-
--- A call to a store in the state t is answered by its table.
-abbrev pub CallByTable : Sizes → State → Call → Answer → Type 0
-CallByTable z t (offer o) a = ByTable z t o a
 
 -- THE HISTORY BY MEANING. "Taken from what was passed to them: namespace, subspace, path by its components, timestamp, payload
 -- length, digest. These make an offer's entry." What an offer that was answered so adds to it: its entry, unless it was refused.
 abbrev pub AddsItsEntry : Sizes → Offer → List Entry → Type 0
 AddsItsEntry z o new = (e : Entry) × Makes z o e × (new ≡ e ∷ [])
 
--- "An offer is refused exactly if it was answered with a refusal number."
 abbrev pub Adds : Sizes → Call → Answer → List Entry → Type 0
 Adds z (offer o) (refused r) new = new ≡ []
 Adds z (offer o) outdated new = AddsItsEntry z o new
 Adds z (offer o) repeated new = AddsItsEntry z o new
 Adds z (offer o) (taken k) new = AddsItsEntry z o new
 
--- A call c that was answered a leads from the past p to the past q: what it adds stands behind the history, and the bytes that had
--- been let go before the history began are the same.
-abbrev pub Leads : Sizes → Past → Call → Answer → Past → Type 0
-Leads z p c a q = (q.base ≡ p.base) × ((new : List Entry) × Adds z c a new × (q.history ≡ p.history ++ new))
+-- "The unrefused offers in list order": calls with their answers lead from a history to a history.
+abbrev pub HistoryOf : Sizes → List Entry → List Call → List Answer → List Entry → Type 0
+HistoryOf z h [] [] last = last ≡ h
+HistoryOf z h [] (a ∷ as') last = ⊥
+HistoryOf z h (c ∷ cs) [] last = ⊥
+HistoryOf z h (c ∷ cs) (a ∷ as') last = (new : List Entry) × Adds z c a new × HistoryOf z (h ++ new) cs as' last
 
--- "The history is the unrefused offers in list order": calls with their answers lead from the past p to the past last.
-abbrev pub HistoryOf : Sizes → Past → List Call → List Answer → Past → Type 0
-HistoryOf z p [] [] last = last ≡ p
-HistoryOf z p [] (a ∷ as') last = ⊥
-HistoryOf z p (c ∷ cs) [] last = ⊥
-HistoryOf z p (c ∷ cs) (a ∷ as') last = (q : Past) × Leads z p c a q × HistoryOf z q cs as' last
+-- Each answer is given exactly if its own row's condition holds and none that is tested before it, and no other is given.
+pub record ByTable (z : Sizes) (t : State) (o : Offer) (a : Answer) : Type 0 where
+  pub wrong_namespace_lem : (a ≡ refused WrongNamespace) ↔ OtherNamespace z o
+  pub bad_path_lem : (a ≡ refused BadPath) ↔ ((o.namespace ≡ z.namespace) × NoPath z o)
+  pub total-full : (a ≡ refused TotalFull) ↔ ((e : Entry) × Makes z o e × Full t e)
+  pub is-outdated : (a ≡ outdated) ↔ ((e : Entry) × Makes z o e × (Full t e → ⊥) × Outdated t e)
+  pub is-repeat : (a ≡ repeated) ↔ ((e : Entry) × Makes z o e × (Full t e → ⊥) × (Outdated t e → ⊥) × Repeat t e)
+  pub no_room_lem : (a ≡ refused NoRoom)
+      ↔ ((e : Entry) × Makes z o e × (Full t e → ⊥) × (Outdated t e → ⊥) × (Repeat t e → ⊥) × Crowded z t e)
+  pub is-taken : (k : ℕ) → (a ≡ taken k)
+      ↔ ((e : Entry) × Makes z o e × (Full t e → ⊥) × (Outdated t e → ⊥) × (Repeat t e → ⊥) × (Crowded z t e → ⊥) × Number (Prunes e) t.entries k)
+  pub no_other : (r : Refusal) → a ≡ refused r
+      → (r ≡ WrongNamespace) ⊎ ((r ≡ BadPath) ⊎ ((r ≡ TotalFull) ⊎ (r ≡ NoRoom)))
 
--- THE ANSWERS. One is given by the table "for the entries and totals that demand 3 gives just before it": for the state of which
--- the demand's own words hold for the past p.
-pub record AnsweredAt (z : Sizes) (p : Past) (c : Call) (a : Answer) : Type 0 where
-  pub before : State
-  pub given_before : GivenBy p.base p.history before
-  pub by_table : CallByTable z before c a
-
--- And so is each of a list, from the past that the calls before it lead to.
-abbrev pub Answered : Sizes → Past → List Call → List Answer → Type 0
-Answered z p [] [] = Unit {0}
-Answered z p [] (a ∷ as') = ⊥
-Answered z p (c ∷ cs) [] = ⊥
-Answered z p (c ∷ cs) (a ∷ as') = AnsweredAt z p c a × ((q : Past) × Leads z p c a q × Answered z q cs as')
+-- The answers are those of the table, each "for the entries and totals that demand 3 gives just before it".
+abbrev pub Answered : Sizes → ℕ → List Entry → List Call → List Answer → Type 0
+Answered z base h [] [] = Unit {0}
+Answered z base h [] (a ∷ as') = ⊥
+Answered z base h (c ∷ cs) [] = ⊥
+Answered z base h (offer o ∷ cs) (a ∷ as') =
+    ByTable z (given base h) o a × Answered z base (grown z h (offer o) a) cs as'
 
 -- What the types of the arguments of a call say.
 abbrev pub CallPassed : Call → Type 0
 CallPassed (offer o) = Passed o
-
--- NONE OF THESE WORDS LEAVES A CHOICE. For a past there is one state of which demand 3's words hold, so "what demand 3 gives" is one
--- thing, and `before` above is it:
-abbrev pub OneGiven : Type 0
-OneGiven = (base : ℕ) (h : List Entry) (s t : State) → GivenBy base h s → GivenBy base h t → s ≡ t
-
--- and calls with their answers lead to one past. The premises are limits that are numbers of 64 bits, as 0, and calls whose arguments
--- are what their types say, as none at all.
-abbrev pub OneHistory : Type 0
-OneHistory = (z : Sizes) (p : Past) (cs : List Call) (as' : List Answer) (q r : Past) → Words z.limits → All CallPassed cs
-    → HistoryOf z p cs as' q → HistoryOf z p cs as' r → q ≡ r
-
--- WHAT IS COMPUTED IS WHAT IS MEANT. Where a history is of one namespace, as a store's is, there is such a state, and it is the computed
--- one; the answers that are computed lead to the computed history; and at the end of every list from a fresh store the state is the
--- one computed from that history. The premises are met by the empty history, and as above.
-pub record Computed : Type 0 where
-  pub state : (ns base : ℕ) (h : List Entry) → ((x : Entry) → In x h → x.namespace ≡ ns) → GivenBy base h (given base h)
-  pub passed : (z : Sizes) (p : Past) (s : State) (cs : List Call) → Words z.limits → All CallPassed cs
-      → HistoryOf z p cs (answers z s cs) (record { base = p.base; history = history z p.history cs (answers z s cs) })
-  pub run_given : (z : Sizes) (cs : List Call) → run z fresh cs ≡ given 0 (history z [] cs (answers z fresh cs))
 
 -- The bounds of a sheet: "n (in both sheets at most N)", and "the two totals do not pass 2^64 − 1 together".
 pub record Within (z : Sizes) (s : State) : Type 0 where
   pub count : length s.entries ≤ z.capacity
   pub totals : s.held + s.let_go ≤ max_word
 
--- THEOREM 9, on states. Calls are made one after the other, from the state s on, which has the past p. Then, wherever the list of calls
--- ends:
-pub record Demand3 (z : Sizes) (p : Past) (s : State) (cs : List Call) : Type 0 where
-  -- there is a past at its end,
-  pub last : Past
-  -- to which what was passed to the unrefused offers leads,
-  pub passed : HistoryOf z p cs (answers z s cs) last
+-- THEOREM 9, on states. Calls are made one after the other, from the state s on, behind a history h before which `base` bytes
+-- had been let go. Then, wherever the list of calls ends:
+pub record Demand3 (z : Sizes) (base : ℕ) (h : List Entry) (s : State) (cs : List Call) : Type 0 where
+  -- the state is the one that is computed from the history,
+  pub state : run z s cs ≡ given base (history z h cs (answers z s cs))
+  -- that history is what was passed to the unrefused offers,
+  pub passed : HistoryOf z h cs (answers z s cs) (history z h cs (answers z s cs))
   -- each call was answered as the table says, for what demand 3 gives just before it,
-  pub table : Answered z p cs (answers z s cs)
+  pub table : Answered z base h cs (answers z s cs)
   -- the state is the one of demand 3's words,
-  pub means : GivenBy last.base last.history (run z s cs)
+  pub means : GivenBy base (history z h cs (answers z s cs)) (run z s cs)
   -- and it is within the bounds of a sheet.
   pub within : Within z (run z s cs)
 
--- Demand 3: from a fresh store, which has no past. Its premises are those of `OneHistory`.
+-- Demand 3: from a fresh store, with an empty history and nothing let go before it. Its premises are limits that are numbers of
+-- 64 bits, as 0, and calls whose arguments are what their types say, as none at all.
 abbrev pub Demand3OnStates : Type 0
-Demand3OnStates = (z : Sizes) (cs : List Call) → Words z.limits → All CallPassed cs → Demand3 z nothing_yet fresh cs
+Demand3OnStates = (z : Sizes) (cs : List Call) → Words z.limits → All CallPassed cs → Demand3 z 0 [] fresh cs

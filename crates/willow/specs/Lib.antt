@@ -17,7 +17,3 @@ pub mod Store
 pub mod Demand3
 pub mod MarkedCases
 pub mod Answers
-pub mod Tables
-pub mod TableRows
-pub mod KnownRanges
-pub mod BufferAnswers

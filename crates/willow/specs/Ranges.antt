@@ -124,12 +124,6 @@ abbrev pub EndHas : {A : Type 0} → (A → Type 0) → End A → Type 0
 EndHas U (closed e) = U e
 EndHas U endless = Unit {0}
 
--- "`includes_range` compares starts and ends, open being greatest. For ranges with start below end this is set inclusion." The bounds
--- of s are within those of r: it starts no sooner, and ends no later. That is asked of every range, also of one that includes nothing,
--- as [3,1): by this rule [0,1) includes it, and [4,9) does not.
-abbrev pub BoundsWithin : {A : Type 0} → (A → A → Type 0) → Range A → Range A → Type 0
-BoundsWithin Below r s = AtMost Below r.start s.start × AtMost (EndBelow Below) s.end r.end
-
 -- THEOREM 5, for every total order that a comparison decides: that of numbers and that of paths. Inclusion of a range is
 -- inclusion of sets, among the values that have U (numbers of 64 bits, valid paths), where the included range has its start
 -- below its end; its premises are met by the range from the least value on. The rest has no premise.
@@ -137,7 +131,8 @@ pub record RangeLaws {A : Type 0} (compare : A → A → Order) (Below : A → A
   pub value_included : (r : Range A) (x : A) → (includes compare r x ≡ true) ↔ InRange Below r x
   pub range_included : (r s : Range A) → EndHas U r.end → U s.start → NonEmpty Below s
       → (includes_range compare r s ≡ true) ↔ ((x : A) → U x → InRange Below s x → InRange Below r x)
-  pub bounds_included : (r s : Range A) → (includes_range compare r s ≡ true) ↔ BoundsWithin Below r s
+  pub bounds_included : (r s : Range A) → (includes_range compare r s ≡ true)
+      ↔ (AtMost Below r.start s.start × AtMost (EndBelow Below) s.end r.end)
   pub intersected : (r s : Range A) → IsIntersection Below r s (intersection compare r s)
   pub order_total : Total (compare_ranges compare)
   pub order_means : Decides (compare_ranges compare) (RangeBelow Below)

@@ -10,7 +10,7 @@ use Rattle.willow.specs.LeastPaths.{next_greater}
 use Rattle.willow.specs.Limits.{max_word}
 use Rattle.willow.specs.Orders.{is_greater, Total, Decides, compare_numbers, compare_pairs, PairBelow}
 use Rattle.willow.specs.Paths.{Path, Valid, Prefix, PathBelow, is_prefix_of, compare_paths}
-use Rattle.willow.specs.Ranges.{End, closed, endless, Range, EndHas, InRange, NonEmpty, BoundsWithin, RangeBelow, includes, includes_range, intersection, compare_ranges}
+use Rattle.willow.specs.Ranges.{End, closed, endless, Range, EndHas, InRange, NonEmpty, RangeBelow, includes, includes_range, intersection, compare_ranges}
 
 pub record Range3d : Type 0 where
   pub subspaces : Range ℕ
@@ -133,8 +133,6 @@ pub record Range3dLaws (L : Limits) : Type 0 where
   pub triplet_included : (r : Range3d) (t : Triplet) → (includes_triplet3d r t ≡ true) ↔ InRange3d r t
   pub range_included : (r s : Range3d) → ValidRange3d L r → ValidRange3d L s → NonEmpty3d s
       → (includes_range3d r s ≡ true) ↔ Range3dIncluded L s r
-  pub bounds_included : (r s : Range3d) → (includes_range3d r s ≡ true)
-      ↔ (BoundsWithin ◌<◌ r.subspaces s.subspaces × (BoundsWithin PathBelow r.paths s.paths × BoundsWithin ◌<◌ r.times s.times))
   pub intersected : (r s : Range3d) → IsIntersection3d r s (intersection3d r s)
   pub intersection_valid : (r s m : Range3d) → ValidRange3d L r → ValidRange3d L s → intersection3d r s ≡ some m
       → ValidRange3d L m × NonEmpty3d m
@@ -142,7 +140,5 @@ pub record Range3dLaws (L : Limits) : Type 0 where
   pub prunable_if : (r : Range3d) (t : Triplet) → PrunesSome L (InRange3d r) t → range3d_prunable r t ≡ true
   pub area_triplets : (a : Area) → ValidArea L a → (t : Triplet) → ValidTriplet L t
       → InRange3d (range3d_from L a) t ↔ InArea a t
-  pub area_valid : (a : Area) → ValidArea L a → ValidRange3d L (range3d_from L a)
-  pub area_nonempty : (a : Area) → ValidArea L a → NonEmpty ◌<◌ a.times → NonEmpty3d (range3d_from L a)
   pub order_total : Total compare_ranges3d
   pub order_means : Decides compare_ranges3d Range3dBelow

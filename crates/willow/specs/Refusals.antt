@@ -3,8 +3,8 @@ use Rattle.std.specs.Prelude.{ℕ}
 use Rattle.willow.specs.declared.Refusal.{Refusal}
 use Rattle.willow.specs.declared.Refusal.TheVariants.{BadLimits, BadSheet, BadKind, WrongNamespace, BadPath, BadLengths, PathTooLong, TooManyComponents, ComponentTooLong, NoSuchPrefix, Overfilled, Unfinished, TotalFull, NoRoom, OutTooSmall}
 
--- Document 01, "What a call gives back": the number of each refusal. Which of several that apply is given is said by the order
--- of the tests (Tables.antt), which is today that of these numbers.
+-- Document 01, "What a call gives back": the number of each refusal. No statement compares these numbers: which refusal is
+-- given where several apply is said by the order in which a definition tests them.
 abbrev pub refusal_number : Refusal → ℕ
 refusal_number BadLimits = 1
 refusal_number BadSheet = 2

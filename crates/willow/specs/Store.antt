@@ -67,12 +67,6 @@ is_refused outdated = false
 is_refused repeated = false
 is_refused (taken k) = false
 
-abbrev pub refused_with : Answer → Option Refusal
-refused_with (refused r) = some r
-refused_with outdated = none
-refused_with repeated = none
-refused_with (taken k) = none
-
 -- The entry that an offer makes with the path p, and the one that it makes with what its buffer holds, if that is a path.
 abbrev pub entry_with : Offer → Path → Entry
 entry_with o p = record {

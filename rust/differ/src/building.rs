@@ -63,7 +63,7 @@ fn held(state: Builder, buffer: &[u8]) -> Option<Parts> {
         let bytes = buffer.get(at..at + 8)?;
         Some(u64::from_le_bytes(bytes.try_into().ok()?))
     };
-    if number(0)? != state.count || state.appended > state.count.min(state.mcc) {
+    if number(0)? != state.count || state.appended > state.count {
         return None;
     }
     let start = 8 * (state.count as usize + 1);
@@ -76,7 +76,7 @@ fn held(state: Builder, buffer: &[u8]) -> Option<Parts> {
             }
             continue;
         }
-        if next < end || next - end > state.mcl || next > state.length.min(state.mpl) {
+        if next < end || next - end > state.mcl || next > state.length {
             return None;
         }
         parts.push(buffer[start + end as usize..start + next as usize].to_vec());
@@ -134,11 +134,7 @@ fn build(state: Builder, buffer: &[u8]) -> Result<u64, u64> {
     let (mut conditions, parts) = of_state(state, buffer);
     let short = match parts {
         Some(parts) => (total(&parts) as u64) < state.length,
-        // Where nothing can be read, bytes are certainly missing if components of MCL bytes each have too few.
-        None => {
-            let reach = u128::from(state.appended) * u128::from(state.mcl);
-            state.appended <= state.count && reach < u128::from(state.length)
-        }
+        None => state.appended == 0 && state.length > 0,
     };
     conditions.push((state.appended < state.count || short, 12));
     match smallest(&conditions) {

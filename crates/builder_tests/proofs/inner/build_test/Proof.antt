@@ -1,11 +1,10 @@
 -- Behind the tests of the state, one law for each way out.
 use mathlib.Core.Option.{none}
 use mathlib.Core.Path.{◌≡◌, sym, ◌∙◌}
-use native.Mathlib.Omega.{arith}
 use borrow.Author.Rules.{rules}
 use Rattle.builder_law.specs.Building.{State, state_of, state_refusal}
 use Rattle.builder_law.proofs.StateLaws.{handed_on, passed_on}
-use Rattle.builder_law.proofs.CallLaws.{build_tested, build_count, build_length, build_fine, build_many, build_unreachable, build_room, build_reach}
+use Rattle.builder_law.proofs.CallLaws.{build_tested, build_count, build_length, build_fine, build-nothing, build-empty, build_room}
 use Rattle.builder_tests.proofs.inner.build_test.Statement.{statement}
 use Rattle.builder_tests.proofs.inner.build_test.Tie as tie
 
@@ -43,17 +42,14 @@ returns-3 c = build_length _ _ (passed c.before.before.before.before.before) c.b
 returns-4 : tie.Need-returns-4
 returns-4 c = build_fine _ _ (passed c.before.before.before.before.before) c.before.before.before.before.if1.false (sym c.before.before.before.long-enough.ensures ∙ c.before.before.if2.true) _ c.before.known-length.ensures c.if3.false
 
-mul-if5 : tie.Need-overflow-mul-if5
-mul-if5 c = let r = build_reach _ _ (passed c.before.before.before.before.before) c.before.if4.true in omega arith
-
 returns-5 : tie.Need-returns-5
-returns-5 c = build_unreachable _ _ (passed c.before.before.before.before.before.before) c.before.before.before.before.before.if1.false (sym c.before.before.before.before.long-enough.ensures ∙ c.before.before.before.if2.false) c.before.before.if4.true c.if5.true
+returns-5 c = build-nothing _ _ (passed c.before.before.before.before.before) c.before.before.before.before.if1.false (sym c.before.before.before.long-enough.ensures ∙ c.before.before.if2.false) c.before.if4.true c.if5.true
 
 returns-6 : tie.Need-returns-6
-returns-6 c = build_room _ _ (passed c.before.before.before.before.before.before) c.before.before.before.before.before.if1.false (sym c.before.before.before.before.long-enough.ensures ∙ c.before.before.before.if2.false) c.before.before.if4.true c.if5.false
+returns-6 c = build-empty _ _ (passed c.before.before.before.before.before) c.before.before.before.before.if1.false (sym c.before.before.before.long-enough.ensures ∙ c.before.before.if2.false) c.before.if4.true c.if5.false
 
 returns-7 : tie.Need-returns-7
-returns-7 c = build_many _ _ (passed c.before.before.before.before) c.before.before.before.if1.false (sym c.before.before.long-enough.ensures ∙ c.before.if2.false) c.if4.false
+returns-7 c = build_room _ _ (passed c.before.before.before.before) c.before.before.before.if1.false (sym c.before.before.long-enough.ensures ∙ c.before.if2.false) c.if4.false
 
 pub build-test-spec : {M : Type 1} → statement M
 build-test-spec =
@@ -68,7 +64,6 @@ build-test-spec =
     known-length-requires
     returns-3
     returns-4
-    mul-if5
     returns-5
     returns-6
     returns-7)

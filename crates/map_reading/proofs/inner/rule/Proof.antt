@@ -23,7 +23,7 @@ rule-value-requires : tie.Need-rule-value-requires
 rule-value-requires c κs = search rules
 
 returns : tie.Need-returns
-returns c = rule_parts_lem c.before.rule-area.result _ (rule_in (map_row c.before.before.before.before.before.args.sheet.now c.before.before.before.before.before.args.i)) c.before.rule-area.ensures c.rule_value.ensures ∙ ap (λ r. value (rule_parts r)) (sym (rule_at_lem _ c.before.before.before.before.before.requires.0 _ c.before.before.before.before.before.requires.1))
+returns c = rule_parts_lem c.before.rule-area.result _ (rule_in (map_row c.before.before.before.before.before.args.sheet.now c.before.before.before.before.before.args.i)) c.before.rule-area.ensures c.Rule-value.ensures ∙ ap (λ r. value (rule_parts r)) (sym (rule_at_lem _ c.before.before.before.before.before.requires.0 _ c.before.before.before.before.before.requires.1))
 
 pub rule-spec : {M : Type 1} → statement M
 rule-spec =
