@@ -1,8 +1,8 @@
 //! Finds the archives of the core, or builds them.
 //!
-//! There is one for each crate in the repository's `crates.txt` whose name begins with `host_`. They are looked for in the
+//! There is one, `libhost_X.a`, for each static library `host_X_c` in the repository's `crates.txt`. They are looked for in the
 //! folder that `WOTSKRALE_ARCHIVES` names, else in `target/staticlib` of the repository. In the second place a missing archive
-//! is built with `rt staticlib`, which proves what it builds.
+//! is built with `rt lib` in the folder of `host_X_c`, which proves what it builds, and copied there under its name.
 
 use std::env;
 use std::fs;
@@ -42,16 +42,23 @@ fn repository() -> PathBuf {
     }
 }
 
-/// The crates that export calls: each line is a name, a colon and what the crate uses.
+/// The archives: `host_X` for each line whose crate `host_X_c` is a static library. A line is a name, words on the crate, a colon
+/// and what the crate uses.
 fn names(list: &Path) -> Vec<String> {
     println!("cargo:rerun-if-changed={}", list.display());
     let text = match fs::read_to_string(list) {
         Ok(text) => text,
         Err(error) => stop(&format!("{}: {error}", list.display())),
     };
-    let names = text.lines().filter_map(|line| line.split(':').next());
-    let names = names.filter(|name| name.starts_with("host_"));
-    names.map(str::to_string).collect()
+    text.lines().filter_map(exported_by).collect()
+}
+
+fn exported_by(line: &str) -> Option<String> {
+    let (said, _) = line.split('#').next()?.split_once(':')?;
+    let mut words = said.split_whitespace();
+    let name = words.next()?.strip_suffix("_c")?;
+    let exports = name.starts_with("host_") && words.any(|word| word == "staticlib");
+    exports.then(|| name.to_string())
 }
 
 fn archive(folder: &Path, name: &str) -> PathBuf {
@@ -78,25 +85,31 @@ fn of_repository(repository: &Path, names: &[String]) -> PathBuf {
     let folder = repository.join("target/staticlib");
     for name in names {
         if !archive(&folder, name).is_file() {
-            build(repository, name);
+            build(repository, name, &folder);
         }
     }
     folder
 }
 
-fn build(repository: &Path, name: &str) {
-    let ran = Command::new("rt")
-        .arg("staticlib")
-        .arg(name)
-        .current_dir(repository)
-        .status();
+fn build(repository: &Path, name: &str, folder: &Path) {
+    let place = repository.join(format!("crates/{name}_c"));
+    let ran = Command::new("rt").arg("lib").current_dir(&place).status();
     match ran {
         Ok(status) if status.success() => {}
-        Ok(status) => stop(&format!("`rt staticlib {name}` ended with {status}")),
-        Err(error) => stop(&format!(
-            "lib{name}.a is missing and `rt staticlib {name}` cannot be started ({error}); \
-             put rt on PATH, or name the archives' folder in WOTSKRALE_ARCHIVES"
+        Ok(status) => stop(&format!(
+            "`rt lib` in {} ended with {status}",
+            place.display()
         )),
+        Err(error) => stop(&format!(
+            "lib{name}.a is missing and `rt lib` cannot be started in {} ({error}); \
+             put rt on PATH, or name the archives' folder in WOTSKRALE_ARCHIVES",
+            place.display()
+        )),
+    }
+    let built = archive(&place.join("out"), &format!("{name}_c"));
+    let copied = fs::create_dir_all(folder).and_then(|()| fs::copy(&built, archive(folder, name)));
+    if let Err(error) = copied {
+        stop(&format!("{}: {error}", built.display()));
     }
 }
 

@@ -1,6 +1,7 @@
 // Areas (grouping/area.rs): the entries of one subspace or of any, below a path, in a range of times. An area is a struct beside
 // the lent buffer of its path; the count in it says how many of the buffer's components its path has. The questions on areas are the
 // calls of crate `area_questions`.
+#![tactic(auto)]
 
 pub mod inner;
 
@@ -12,7 +13,7 @@ use range::Range;
 use willow::AreaSubspace;
 
 // An area beside the buffer of its path.
-#[derive(Drop)]
+#[derive(Clone, Copy)]
 pub struct Area {
     pub subspace: AreaSubspace,
     pub count: u64,

@@ -14,7 +14,7 @@ use range::Range;
 use willow::AreaSubspace;
 
 // Whose path stands: the second's where the first is a prefix of it, else the first's where the second is a prefix of that.
-#[derive(Drop)]
+#[derive(Clone, Copy)]
 pub(crate) enum Side {
     Neither,
     First,

@@ -1,6 +1,7 @@
 // The intersection of two areas (grouping/area.rs). Its path is "the longer of the two paths, which is a part of one of the two
 // lent inputs": one call answers whose path stands, with its count, the subspaces and the times, and one call gives that path's
 // buffer, borrowed from one of the two. Refuses 1, then 5.
+#![tactic(auto)]
 
 pub mod inner;
 
@@ -12,7 +13,7 @@ use area::Area;
 use willow::{Limits, Refusal, Tested};
 
 // The area of what lies in both: beside the first's buffer, or beside the second's.
-#[derive(Drop)]
+#[derive(Clone, Copy)]
 pub enum AreaMet {
     Refused(Refusal),
     Nothing,

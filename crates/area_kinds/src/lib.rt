@@ -1,5 +1,6 @@
 // Areas as a host passes them: the kind of its subspaces and an id, the count of its path, a start, the kind of its end and an end.
 // Refuses 1, then 3.
+#![tactic(auto)]
 
 ghost use Rattle.std.specs.Prelude.{◌≡◌};
 ghost use Rattle.willow.specs.Refusals.{value};
@@ -10,13 +11,13 @@ use area::Area;
 use kinds::{RangeRead, SubspaceRead};
 use willow::{Limits, Refusal};
 
-#[derive(Drop)]
+#[derive(Clone, Copy)]
 pub enum AreaRead {
     Refused(Refusal),
     Is(Area),
 }
 
-#[derive(Drop)]
+#[derive(Clone, Copy)]
 pub enum AreasRead {
     Refused(Refusal),
     Are(Area, Area),

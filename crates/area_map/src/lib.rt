@@ -1,5 +1,6 @@
 // The area map (grouping/area.rs, `AreaMap`) as a sheet in lent memory (document 01, "Sheets"): rules inserted. The map's limits and
 // capacity stand in the sheet itself. What every list of insertions into a fresh map leaves is `MapTheorem` (crate `map_law`).
+#![tactic(auto)]
 
 pub mod inner;
 

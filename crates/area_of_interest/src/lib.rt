@@ -1,5 +1,6 @@
 // Areas of interest (grouping/area_of_interest.rs): an area with a count and a size. Like an area, one is a struct beside the lent
 // buffer of its path. Calls refuse 1, then 5.
+#![tactic(auto)]
 
 ghost use Rattle.std.specs.Prelude.{List, ◌≡◌, ℕ};
 ghost use Rattle.willow.specs.Answers.{compared_outcome};
@@ -14,7 +15,7 @@ use range_end::inner::compare_numbers;
 use willow::{Compared, Limits, Order, Refusal};
 
 // An area of interest beside the buffer of its path.
-#[derive(Drop)]
+#[derive(Clone, Copy)]
 pub struct AreaOfInterest {
     pub area: Area,
     pub max_count: u64,
@@ -22,7 +23,7 @@ pub struct AreaOfInterest {
 }
 
 // The area of interest of what lies in both: beside the first's buffer, or beside the second's.
-#[derive(Drop)]
+#[derive(Clone, Copy)]
 pub enum InterestMet {
     Refused(Refusal),
     Nothing,

@@ -1,5 +1,6 @@
 // Questions on areas (grouping/area.rs): what an area includes, what could prune an entry of it, and the order of areas. Calls refuse
 // 1, then 5.
+#![tactic(auto)]
 
 ghost use Rattle.std.specs.Prelude.{◌≡◌};
 ghost use Rattle.willow.specs.Answers.{asked_outcome, compared_outcome, on_paths};

@@ -2,6 +2,7 @@
 // Its counts travel by value: every call takes a state, tests it against the buffer beside it, and hands a state back. So a host
 // may keep it anywhere, and a state or a buffer that something else has changed is refused. Refused are 1, 5, 7, 8, 9, 10, 11,
 // 12, 15 in this order; after a refusal the buffer is as it was found and the state comes back equal.
+#![tactic(auto)]
 
 ghost use Rattle.std.specs.Prelude.{◌≡◌};
 ghost use Rattle.willow.specs.Answers.{unless};
@@ -15,7 +16,7 @@ use willow::{Limits, Refusal, Tested};
 
 // The limits, the declared length and count, and how many components are appended.
 #[repr(C)]
-#[derive(Drop)]
+#[derive(Clone, Copy)]
 pub struct Builder {
     pub mcl: u64,
     pub mcc: u64,
@@ -25,19 +26,19 @@ pub struct Builder {
     pub appended: u64,
 }
 
-#[derive(Drop)]
+#[derive(Clone, Copy)]
 pub enum Started {
     Refused(Refusal),
     Ready(Builder),
 }
 
-#[derive(Drop)]
+#[derive(Clone, Copy)]
 pub enum Appended {
     Refused(Refusal, Builder),
     Grown(Builder),
 }
 
-#[derive(Drop)]
+#[derive(Clone, Copy)]
 pub enum Built {
     Refused(Refusal, Builder),
     Path(u64),

@@ -1,5 +1,6 @@
 // Components (component.rs): parts of packed paths, compared as unsigned bytes. Long parts are passed over by eight and by
 // sixty-four bytes while both agree, and what is left is compared byte by byte.
+#![tactic(auto)]
 
 ghost use Rattle.std.specs.Prelude.{◌≡◌, ◌+◌, ◌≤◌, drop, length};
 ghost use Rattle.willow.specs.Orders.{compare_numbers, is_equal};

@@ -2,6 +2,7 @@
 // `append_slice` of path/mod.rs), written packed to the front of a lent buffer. All rest on `append_slice`: a path from slices
 // is the empty path with the slices behind it, and one component is a list of one slice. Refused are 1, 5, 6, 7, 8, 9 in this
 // order, and 15 exactly if the buffer is too short for the path; what stands behind the path stays.
+#![tactic(auto)]
 
 ghost use Rattle.std.specs.Prelude.{◌≡◌};
 ghost use Rattle.willow.specs.Answers.{counted_outcome, on_path, packed_outcome, tested_refusal, written_buffer, written_length};

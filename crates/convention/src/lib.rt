@@ -1,6 +1,7 @@
 // How answers become numbers for a host in another language. Such a host passes plain numbers and byte buffers and gets numbers
 // back: an exported call is one call of the core, whose answer becomes a status and values. For a test, yes or no, an order and a
 // count these four functions do that; an answer of another form has a function beside the export. A test gives its status alone.
+#![tactic(auto)]
 
 ghost use Rattle.std.specs.Prelude.{◌≡◌};
 ghost use Rattle.willow.specs.Answers.{asked_outcome, compared_outcome, counted_outcome, tested_refusal};
@@ -11,7 +12,7 @@ use willow::{Asked, Compared, Counted, Tested};
 
 // What an exported call returns: 0, a refusal's number or 255 for none; and the value, 0 unless there is an answer.
 #[repr(C)]
-#[derive(Drop)]
+#[derive(Clone, Copy)]
 pub struct Answer {
     pub status: u64,
     pub value: u64,

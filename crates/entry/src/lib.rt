@@ -1,12 +1,13 @@
 // Entries (entry.rs). An entry is its namespace, its head and its path, which is lent as a buffer with a count beside it. The
 // questions on entries are the calls of crate `entry_questions`.
+#![tactic(auto)]
 
 pub mod inner;
 
 ghost use Rattle.std.specs.Prelude.{◌≡◌};
 
 // What an entry has beside its namespace and its path.
-#[derive(Drop)]
+#[derive(Clone, Copy)]
 pub struct Head {
     pub subspace: u64,
     pub timestamp: u64,

@@ -1,4 +1,5 @@
 // Questions on two entries (entry.rs): newer, pruning, equality and the two orders. Calls refuse 1, then 5 for either path.
+#![tactic(auto)]
 
 ghost use Rattle.std.specs.Prelude.{◌≡◌, ℕ};
 ghost use Rattle.willow.specs.Answers.{asked_outcome, compared_outcome, on_paths};

@@ -10,7 +10,7 @@ use borrow.Author.Tests.{le-leb, lt-leb}
 use Rattle.willow.specs.declared.Refusal.TheVariants.{OutTooSmall}
 use Rattle.willow.specs.Answers.{path_in, written_length, written_buffer}
 use Rattle.willow.specs.Construction.{lengths_in, cut, total}
-use Rattle.willow.specs.Limits.{max_mCC, max_mPL}
+use Rattle.willow.specs.Limits.{max_mcc, max_mpl}
 use Rattle.willow.specs.Numbers.{Bytes, le}
 use Rattle.willow.specs.Packed.{accumulated, joined, pack, packed_count, unpack, widest}
 use Rattle.willow.specs.Paths.{Path, path_length}
@@ -30,8 +30,8 @@ use Rattle.extension.proofs.AdmissionLaws.{cut_slices, whole}
 pub record Extent (b : List ℕ) (k : ℕ) (lengths bytes : List ℕ) : Type 0 where
   pub whole_numbers : length lengths % 8 ≡ 0
   pub sum : total (lengths_in lengths) ≡ length bytes
-  pub few : k + length lengths / 8 ≤ max_mCC
-  pub short : path_length (path_in b k) + length bytes ≤ max_mPL
+  pub few : k + length lengths / 8 ≤ max_mcc
+  pub short : path_length (path_in b k) + length bytes ≤ max_mpl
   pub within : k ≤ packed_count b
   pub inside : 8 + 8 * packed_count b + path_length (path_in b k) ≤ length b
   pub size : length (pack (path_in b k ++ cut (lengths_in lengths) bytes)) ≡ 8 + 8 * (k + length lengths / 8) + path_length (path_in b k) + length bytes

@@ -5,7 +5,7 @@ use Rattle.willow.specs.declared.Refusal.{Refusal}
 use Rattle.packed.specs.Readable.{Readable}
 use Rattle.willow.specs.Answers.{path_in}
 use Rattle.willow.specs.Construction.{lengths_fit}
-use Rattle.willow.specs.Limits.{max_mCC, max_mPL}
+use Rattle.willow.specs.Limits.{max_mcc, max_mpl}
 use Rattle.willow.specs.Numbers.{le}
 use Rattle.willow.specs.Paths.{path_length}
 use Rattle.willow.specs.Refusals.{Outcome, refused, absent, value}
@@ -26,5 +26,5 @@ accumulated_by from (n ∷ ns) = le 8 (from + n) ++ accumulated_by (from + n) ns
 pub record Extendable (b : List ℕ) (k : ℕ) (lengths bytes : List ℕ) : Type 0 where
   pub path_readable : Readable b k
   pub lengths_fit_lem : lengths_fit lengths bytes ≡ true
-  pub few : k + length lengths / 8 ≤ max_mCC
-  pub short : path_length (path_in b k) + length bytes ≤ max_mPL
+  pub few : k + length lengths / 8 ≤ max_mcc
+  pub short : path_length (path_in b k) + length bytes ≤ max_mpl

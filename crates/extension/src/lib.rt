@@ -1,3 +1,4 @@
 // A lent path lengthened by slices, for the calls that make paths (`construction`): one admission, and one way of writing.
+#![tactic(auto)]
 
 pub mod inner;

@@ -1,5 +1,6 @@
 // The greatest valid path (`new_max` of path/mod.rs), written packed to the front of a lent buffer. Refused are 1, and 15
 // exactly if the buffer is too short for the path; what stands behind the path stays.
+#![tactic(auto)]
 
 ghost use Rattle.std.specs.Prelude.{◌≡◌, ◌*◌, ◌+◌, ◌≤◌, min, length, replicate};
 ghost use Rattle.number.specs.Overwriting.{overwrite};

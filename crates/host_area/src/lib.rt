@@ -3,6 +3,7 @@
 // An area is the kind of its subspaces (0 any, 1 one id), an id, the packed path as a buffer with a count beside it, and the start,
 // the kind of the end (0 open, 1 closed) and the end of its times. A number beside kind 0 is not read. A slice is a pointer and then
 // a length; limits are three numbers MCL, MCC, MPL. Every call refuses 1, then 3, then 5.
+#![tactic(auto)]
 
 ghost use Rattle.std.specs.Prelude.{◌≡◌};
 ghost use Rattle.willow.specs.Answers.{on_paths};
@@ -22,8 +23,7 @@ use convention::{Answer, asked, compared};
 use willow::{Asked, Compared, Limits};
 
 // Whether an area includes an entry of this subspace, path and timestamp.
-#[unsafe(no_mangle)]
-pub extern "C" fn wotskrale_area_includes_triplet(
+pub fn wotskrale_area_includes_triplet(
     mcl: u64,
     mcc: u64,
     mpl: u64,
@@ -52,8 +52,7 @@ pub extern "C" fn wotskrale_area_includes_triplet(
 }
 
 // Whether an entry of this subspace, path and timestamp can prune entries of an area.
-#[unsafe(no_mangle)]
-pub extern "C" fn wotskrale_area_could_be_pruned_by_triplet(
+pub fn wotskrale_area_could_be_pruned_by_triplet(
     mcl: u64,
     mcc: u64,
     mpl: u64,
@@ -84,8 +83,7 @@ pub extern "C" fn wotskrale_area_could_be_pruned_by_triplet(
 }
 
 // Whether an area includes another.
-#[unsafe(no_mangle)]
-pub extern "C" fn wotskrale_area_includes_area(
+pub fn wotskrale_area_includes_area(
     mcl: u64,
     mcc: u64,
     mpl: u64,
@@ -116,8 +114,7 @@ pub extern "C" fn wotskrale_area_includes_area(
 }
 
 // Whether an area would include another if their subspaces were the same.
-#[unsafe(no_mangle)]
-pub extern "C" fn wotskrale_area_almost_includes_area(
+pub fn wotskrale_area_almost_includes_area(
     mcl: u64,
     mcc: u64,
     mpl: u64,
@@ -148,8 +145,7 @@ pub extern "C" fn wotskrale_area_almost_includes_area(
 }
 
 // The order of two areas.
-#[unsafe(no_mangle)]
-pub extern "C" fn wotskrale_area_compare(
+pub fn wotskrale_area_compare(
     mcl: u64,
     mcc: u64,
     mpl: u64,

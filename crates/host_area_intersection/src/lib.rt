@@ -1,5 +1,6 @@
 // The intersection of two areas (`area_intersection`) for a host in another language. Areas are passed as in `host_area`; the call
 // refuses 1, then 3, then 5.
+#![tactic(auto)]
 
 ghost use Rattle.std.specs.Prelude.{◌≡◌};
 ghost use Rattle.willow.specs.Answers.{on_paths};
@@ -18,7 +19,7 @@ use willow::Limits;
 // An intersection as an answer: 0, a refusal's number or 255 for none; whose path stands (0 the first's, 1 the second's), its
 // count, and the other parts; zeros unless there is one, and 0 beside kind 0.
 #[repr(C)]
-#[derive(Drop)]
+#[derive(Clone, Copy)]
 pub struct AreaAnswer {
     pub status: u64,
     pub whose: u64,
@@ -78,8 +79,7 @@ fn met(m: AreaMet) -> AreaAnswer
 }
 
 // The area of the triplets that lie in both.
-#[unsafe(no_mangle)]
-pub extern "C" fn wotskrale_area_intersection(
+pub fn wotskrale_area_intersection(
     mcl: u64,
     mcc: u64,
     mpl: u64,

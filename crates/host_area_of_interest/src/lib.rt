@@ -4,6 +4,7 @@
 // with a count beside it, and the start, the kind of the end and the end of its times), and behind it a count and a size. A number
 // beside kind 0 is not read. A slice is a pointer and then a length; limits are three numbers MCL, MCC, MPL. Every call refuses 1,
 // then 3, then 5.
+#![tactic(auto)]
 
 ghost use Rattle.std.specs.Prelude.{◌≡◌};
 ghost use Rattle.willow.specs.Answers.{on_paths};
@@ -25,7 +26,7 @@ use willow::{Compared, Limits};
 // An intersection as an answer: 0, a refusal's number or 255 for none; whose path stands (0 the first's, 1 the second's), its
 // count, the other parts of the area, and the count and the size; zeros unless there is one, and 0 beside kind 0.
 #[repr(C)]
-#[derive(Drop)]
+#[derive(Clone, Copy)]
 pub struct InterestAnswer {
     pub status: u64,
     pub whose: u64,
@@ -92,8 +93,7 @@ fn met(m: InterestMet) -> InterestAnswer
 }
 
 // The areas intersected, and of both numbers the one that stands.
-#[unsafe(no_mangle)]
-pub extern "C" fn wotskrale_area_of_interest_intersection(
+pub fn wotskrale_area_of_interest_intersection(
     mcl: u64,
     mcc: u64,
     mpl: u64,
@@ -132,8 +132,7 @@ pub extern "C" fn wotskrale_area_of_interest_intersection(
 }
 
 // The order of two areas of interest.
-#[unsafe(no_mangle)]
-pub extern "C" fn wotskrale_area_of_interest_compare(
+pub fn wotskrale_area_of_interest_compare(
     mcl: u64,
     mcc: u64,
     mpl: u64,

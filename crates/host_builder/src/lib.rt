@@ -4,6 +4,7 @@
 //
 // A slice is a pointer and then a length; limits are three numbers MCL, MCC, MPL. Nothing is required of the host but that a
 // buffer is as long as it says and that the buffer to write overlaps no other.
+#![tactic(auto)]
 
 ghost use Rattle.std.specs.Prelude.{◌≡◌};
 ghost use Rattle.willow.specs.Answers.{unless};
@@ -18,7 +19,7 @@ use willow::Limits;
 
 // What a start and an append return: 0 or a refusal's number, and the state; zeros for it after a refused start.
 #[repr(C)]
-#[derive(Drop)]
+#[derive(Clone, Copy)]
 pub struct BuilderAnswer {
     pub status: u64,
     pub state: Builder,
@@ -26,7 +27,7 @@ pub struct BuilderAnswer {
 
 // What a build returns: 0 or a refusal's number, and the length of the path; the state after a refusal, else zeros for it.
 #[repr(C)]
-#[derive(Drop)]
+#[derive(Clone, Copy)]
 pub struct BuiltAnswer {
     pub status: u64,
     pub value: u64,
@@ -88,8 +89,7 @@ fn build_answer(b: Built) -> BuiltAnswer
 }
 
 // A builder for a path of a declared length and count.
-#[unsafe(no_mangle)]
-pub extern "C" fn wotskrale_builder_new(
+pub fn wotskrale_builder_new(
     mcl: u64,
     mcc: u64,
     mpl: u64,
@@ -104,8 +104,7 @@ pub extern "C" fn wotskrale_builder_new(
 }
 
 // A builder that begins with the first n components of a lent reference.
-#[unsafe(no_mangle)]
-pub extern "C" fn wotskrale_builder_new_from_prefix(
+pub fn wotskrale_builder_new_from_prefix(
     mcl: u64,
     mcc: u64,
     mpl: u64,
@@ -123,12 +122,7 @@ pub extern "C" fn wotskrale_builder_new_from_prefix(
 }
 
 // The next component.
-#[unsafe(no_mangle)]
-pub extern "C" fn wotskrale_builder_append_component(
-    state: Builder,
-    out: &mut [u8],
-    c: &[u8],
-) -> BuilderAnswer
+pub fn wotskrale_builder_append_component(state: Builder, out: &mut [u8], c: &[u8]) -> BuilderAnswer
     ensures value { result ≡ appended_answer (append_refusal state c.now out.old) (by_refusal (append_refusal state c.now out.old) state (grown state)) }
     ensures out_after { out.new ≡ by_refusal (append_refusal state c.now out.old) out.old (grown_buffer state c.now out.old) }
 {
@@ -136,8 +130,7 @@ pub extern "C" fn wotskrale_builder_append_component(
 }
 
 // The path is whole: its length in the buffer, from the front.
-#[unsafe(no_mangle)]
-pub extern "C" fn wotskrale_builder_build(state: Builder, out: &[u8]) -> BuiltAnswer
+pub fn wotskrale_builder_build(state: Builder, out: &[u8]) -> BuiltAnswer
     ensures { result ≡ built_answer (unless (build_refusal state out.now) (value (declared_size state))) (kept_state (build_refusal state out.now) state) }
 {
     build_answer(state.build(out))

@@ -3,6 +3,7 @@
 //
 // A slice is a pointer and then a length; limits are three numbers MCL, MCC, MPL. Nothing is required of the host but that a
 // buffer is as long as it says and that the buffer to write overlaps no other.
+#![tactic(auto)]
 
 ghost use Rattle.std.specs.Prelude.{◌≡◌};
 ghost use Rattle.willow.specs.Answers.{on_path, packed_outcome, written_buffer, written_length};
@@ -13,8 +14,7 @@ use convention::{Answer, counted};
 use willow::Limits;
 
 // From slices: lengths as 8-byte numbers, and the bytes.
-#[unsafe(no_mangle)]
-pub extern "C" fn wotskrale_path_from_slices(
+pub fn wotskrale_path_from_slices(
     mcl: u64,
     mcc: u64,
     mpl: u64,
@@ -29,8 +29,7 @@ pub extern "C" fn wotskrale_path_from_slices(
 }
 
 // From slices with their total.
-#[unsafe(no_mangle)]
-pub extern "C" fn wotskrale_path_new_from_iter(
+pub fn wotskrale_path_new_from_iter(
     mcl: u64,
     mcc: u64,
     mpl: u64,
@@ -46,8 +45,7 @@ pub extern "C" fn wotskrale_path_new_from_iter(
 }
 
 // The empty path.
-#[unsafe(no_mangle)]
-pub extern "C" fn wotskrale_path_new_empty(mcl: u64, mcc: u64, mpl: u64, out: &mut [u8]) -> Answer
+pub fn wotskrale_path_new_empty(mcl: u64, mcc: u64, mpl: u64, out: &mut [u8]) -> Answer
     ensures value { result ≡ given itself (written_length (packed_outcome (empty_outcome (limits_of mcl mcc mpl))) out.old) }
     ensures out_after { out.new ≡ written_buffer (packed_outcome (empty_outcome (limits_of mcl mcc mpl))) out.old }
 {
@@ -55,8 +53,7 @@ pub extern "C" fn wotskrale_path_new_empty(mcl: u64, mcc: u64, mpl: u64, out: &m
 }
 
 // The path of one component.
-#[unsafe(no_mangle)]
-pub extern "C" fn wotskrale_path_new_singleton(
+pub fn wotskrale_path_new_singleton(
     mcl: u64,
     mcc: u64,
     mpl: u64,
@@ -70,8 +67,7 @@ pub extern "C" fn wotskrale_path_new_singleton(
 }
 
 // A component behind a path.
-#[unsafe(no_mangle)]
-pub extern "C" fn wotskrale_path_append(
+pub fn wotskrale_path_append(
     mcl: u64,
     mcc: u64,
     mpl: u64,
@@ -87,8 +83,7 @@ pub extern "C" fn wotskrale_path_append(
 }
 
 // Slices behind a path.
-#[unsafe(no_mangle)]
-pub extern "C" fn wotskrale_path_append_slice(
+pub fn wotskrale_path_append_slice(
     mcl: u64,
     mcc: u64,
     mpl: u64,

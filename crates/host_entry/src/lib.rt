@@ -3,6 +3,7 @@
 // A slice is a pointer and then a length, a digest a pointer to 32 bytes; limits are three numbers MCL, MCC, MPL. An entry is
 // its namespace, its subspace, a path with its count, its timestamp, its payload length and its digest, in this order; a call
 // leaves out what plays no part in it. Nothing is required of the host but that a buffer is as long as it says.
+#![tactic(auto)]
 
 ghost use Rattle.std.specs.Prelude.{◌≡◌, List, ℕ};
 ghost use Rattle.willow.specs.Answers.{on_paths};
@@ -18,8 +19,7 @@ use entry_questions::{compare, compare_places, equal, is_newer_than, is_pruned_b
 use willow::Limits;
 
 // Whether the first entry is newer than the second, whatever their namespaces, subspaces and paths.
-#[unsafe(no_mangle)]
-pub extern "C" fn wotskrale_entry_is_newer_than(
+pub fn wotskrale_entry_is_newer_than(
     timestamp: u64,
     payload_length: u64,
     digest: &[u8; 32],
@@ -35,8 +35,7 @@ pub extern "C" fn wotskrale_entry_is_newer_than(
 }
 
 // Whether the first entry would be pruned by the second.
-#[unsafe(no_mangle)]
-pub extern "C" fn wotskrale_entry_is_pruned_by(
+pub fn wotskrale_entry_is_pruned_by(
     mcl: u64,
     mcc: u64,
     mpl: u64,
@@ -64,8 +63,7 @@ pub extern "C" fn wotskrale_entry_is_pruned_by(
 }
 
 // Whether the first entry prunes the second.
-#[unsafe(no_mangle)]
-pub extern "C" fn wotskrale_entry_prunes(
+pub fn wotskrale_entry_prunes(
     mcl: u64,
     mcc: u64,
     mpl: u64,
@@ -93,8 +91,7 @@ pub extern "C" fn wotskrale_entry_prunes(
 }
 
 // Whether two entries are equal in every field.
-#[unsafe(no_mangle)]
-pub extern "C" fn wotskrale_entry_equal(
+pub fn wotskrale_entry_equal(
     mcl: u64,
     mcc: u64,
     mpl: u64,
@@ -122,8 +119,7 @@ pub extern "C" fn wotskrale_entry_equal(
 }
 
 // The order of a store sheet: by subspace, then by path, whatever the rest.
-#[unsafe(no_mangle)]
-pub extern "C" fn wotskrale_entry_compare_places(
+pub fn wotskrale_entry_compare_places(
     mcl: u64,
     mcc: u64,
     mpl: u64,
@@ -144,8 +140,7 @@ pub extern "C" fn wotskrale_entry_compare_places(
 }
 
 // The order of entries: by namespace, subspace, path, timestamp, digest, payload length.
-#[unsafe(no_mangle)]
-pub extern "C" fn wotskrale_entry_compare(
+pub fn wotskrale_entry_compare(
     mcl: u64,
     mcc: u64,
     mpl: u64,

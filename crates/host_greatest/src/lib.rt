@@ -2,6 +2,7 @@
 //
 // A slice is a pointer and then a length; limits are three numbers MCL, MCC, MPL. Nothing is required of the host but that a
 // buffer is as long as it says.
+#![tactic(auto)]
 
 ghost use Rattle.std.specs.Prelude.{◌≡◌};
 ghost use Rattle.willow.specs.Answers.{packed_outcome, written_buffer, written_length};
@@ -12,8 +13,7 @@ use convention::{Answer, counted};
 use willow::Limits;
 
 // The greatest path, written packed to the front of out: the length written.
-#[unsafe(no_mangle)]
-pub extern "C" fn wotskrale_path_new_max(mcl: u64, mcc: u64, mpl: u64, out: &mut [u8]) -> Answer
+pub fn wotskrale_path_new_max(mcl: u64, mcc: u64, mpl: u64, out: &mut [u8]) -> Answer
     ensures value { result ≡ given itself (written_length (packed_outcome (greatest_outcome (limits_of mcl mcc mpl))) out.old) }
     ensures out_after { out.new ≡ written_buffer (packed_outcome (greatest_outcome (limits_of mcl mcc mpl))) out.old }
 {

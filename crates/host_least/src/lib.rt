@@ -3,6 +3,7 @@
 //
 // A slice is a pointer and then a length; limits are three numbers MCL, MCC, MPL. Nothing is required of the host but that a
 // buffer is as long as it says and that the buffer to write overlaps no other.
+#![tactic(auto)]
 
 ghost use Rattle.std.specs.Prelude.{◌≡◌};
 ghost use Rattle.willow.specs.Answers.{on_path, packed_outcome, written_buffer, written_length};
@@ -13,8 +14,7 @@ use convention::{Answer, counted};
 use willow::Limits;
 
 // The least path above a path.
-#[unsafe(no_mangle)]
-pub extern "C" fn wotskrale_path_successor(
+pub fn wotskrale_path_successor(
     mcl: u64,
     mcc: u64,
     mpl: u64,
@@ -29,8 +29,7 @@ pub extern "C" fn wotskrale_path_successor(
 }
 
 // The least path above a path that it does not prefix.
-#[unsafe(no_mangle)]
-pub extern "C" fn wotskrale_path_greater_but_not_prefixed(
+pub fn wotskrale_path_greater_but_not_prefixed(
     mcl: u64,
     mcc: u64,
     mpl: u64,
@@ -45,8 +44,7 @@ pub extern "C" fn wotskrale_path_greater_but_not_prefixed(
 }
 
 // The end of the range of one path; none where it is open.
-#[unsafe(no_mangle)]
-pub extern "C" fn wotskrale_path_singleton_range(
+pub fn wotskrale_path_singleton_range(
     mcl: u64,
     mcc: u64,
     mpl: u64,

@@ -5,6 +5,7 @@
 // packed path as a buffer with a count beside it, and the start, the kind of the end (0 open, 1 closed) and the end of its times; a
 // number beside kind 0 is not read. A slice is a pointer and then a length. Nothing is required of the host but that a buffer is as
 // long as it says and that a buffer to write overlaps no other.
+#![tactic(auto)]
 
 ghost use Rattle.std.specs.Prelude.{◌≡◌};
 ghost use Rattle.willow.specs.Answers.{written_buffer, written_length};
@@ -17,14 +18,7 @@ use convention::{Answer, counted, tested};
 use willow::Limits;
 
 // A fresh map of these sizes written to the front of a buffer; answers its length. Refuses 1, then 15.
-#[unsafe(no_mangle)]
-pub extern "C" fn wotskrale_map_fresh(
-    mcl: u64,
-    mcc: u64,
-    mpl: u64,
-    capacity: u64,
-    out: &mut [u8],
-) -> Answer
+pub fn wotskrale_map_fresh(mcl: u64, mcc: u64, mpl: u64, capacity: u64, out: &mut [u8]) -> Answer
     ensures value { result ≡ given itself (written_length (fresh_map (limits_of mcl mcc mpl) capacity) out.old) }
     ensures out_after { out.new ≡ written_buffer (fresh_map (limits_of mcl mcc mpl) capacity) out.old }
 {
@@ -32,16 +26,14 @@ pub extern "C" fn wotskrale_map_fresh(
 }
 
 // Whether a buffer begins with a map: 0 or 2.
-#[unsafe(no_mangle)]
-pub extern "C" fn wotskrale_map_test(sheet: &[u8]) -> u64
+pub fn wotskrale_map_test(sheet: &[u8]) -> u64
     ensures { result ≡ refusal_status (map_refusal sheet.now) }
 {
     tested(map_test::test(sheet))
 }
 
 // An area with a value inserted behind the others; answers the position that it took. Refuses 2, then 3, then 5, then 14.
-#[unsafe(no_mangle)]
-pub extern "C" fn wotskrale_map_insert(
+pub fn wotskrale_map_insert(
     sheet: &mut [u8],
     kind: u64,
     id: u64,
@@ -60,8 +52,7 @@ pub extern "C" fn wotskrale_map_insert(
 
 // The positions of the rules whose area intersects an area, in insertion order, written in 8 bytes each to the front of a buffer;
 // answers how many. Refuses 2, then 3, then 5, then 15.
-#[unsafe(no_mangle)]
-pub extern "C" fn wotskrale_map_intersecting(
+pub fn wotskrale_map_intersecting(
     sheet: &[u8],
     kind: u64,
     id: u64,

@@ -1,6 +1,7 @@
 // The rules of an area map, read by their position from 0, for a host in another language. A map is a sheet in a lent buffer; a slice
 // is a pointer and then a length. Nothing is required of the host but that a buffer is as long as it says and that a buffer to write
 // overlaps no other.
+#![tactic(auto)]
 
 ghost use Rattle.std.specs.Prelude.{◌≡◌};
 ghost use Rattle.willow.specs.Answers.{written_buffer, written_length};
@@ -16,7 +17,7 @@ use map_reading::RuleRead;
 // A rule as an answer: 0, a refusal's number or 255 for none; its area but for the path, of which it has the count; its value. Zeros
 // unless there is one, and 0 beside kind 0.
 #[repr(C)]
-#[derive(Drop)]
+#[derive(Clone, Copy)]
 pub struct RuleAnswer {
     pub status: u64,
     pub subspace_kind: u64,
@@ -75,24 +76,21 @@ fn rule_read(r: RuleRead) -> RuleAnswer
 }
 
 // How many rules a map has. Refuses 2.
-#[unsafe(no_mangle)]
-pub extern "C" fn wotskrale_map_count(sheet: &[u8]) -> Answer
+pub fn wotskrale_map_count(sheet: &[u8]) -> Answer
     ensures { result ≡ given itself (count_outcome sheet.now) }
 {
     counted(map_reading::rule_count(sheet))
 }
 
 // Rule i but for its path; none past the last. Refuses 2.
-#[unsafe(no_mangle)]
-pub extern "C" fn wotskrale_map_rule(sheet: &[u8], i: u64) -> RuleAnswer
+pub fn wotskrale_map_rule(sheet: &[u8], i: u64) -> RuleAnswer
     ensures { result ≡ given_rule (rule_read sheet.now i) }
 {
     rule_read(map_reading::rule(sheet, i))
 }
 
 // The packed path of rule i written to the front of a buffer; answers its length, none past the last. Refuses 2, then 15.
-#[unsafe(no_mangle)]
-pub extern "C" fn wotskrale_map_rule_path(sheet: &[u8], i: u64, out: &mut [u8]) -> Answer
+pub fn wotskrale_map_rule_path(sheet: &[u8], i: u64, out: &mut [u8]) -> Answer
     ensures value { result ≡ given itself (written_length (rule_path sheet.now i) out.old) }
     ensures out_after { out.new ≡ written_buffer (rule_path sheet.now i) out.old }
 {

@@ -3,6 +3,7 @@
 // A range is the packed path of its start as a buffer with a count beside it, the kind of its end (0 open, 1 closed), and the packed
 // path of its end with a count; an end is the last three of them. What stands beside kind 0 is not read. A slice is a pointer and then
 // a length; limits are three numbers MCL, MCC, MPL. Calls refuse 1, then 3, then 5.
+#![tactic(auto)]
 
 ghost use Rattle.std.specs.Prelude.{[], ◌∷◌, ◌++◌, ◌≡◌};
 ghost use Rattle.willow.specs.Answers.{on_paths, path_in};
@@ -22,8 +23,7 @@ use path_kinds::{EndRead, RangeRead, RangesRead};
 use willow::{Asked, Compared, Limits};
 
 // Whether an end is above a path.
-#[unsafe(no_mangle)]
-pub extern "C" fn wotskrale_path_range_end_above(
+pub fn wotskrale_path_range_end_above(
     mcl: u64,
     mcc: u64,
     mpl: u64,
@@ -43,8 +43,7 @@ pub extern "C" fn wotskrale_path_range_end_above(
 }
 
 // The order of two ends, open being greatest.
-#[unsafe(no_mangle)]
-pub extern "C" fn wotskrale_path_range_compare_ends(
+pub fn wotskrale_path_range_compare_ends(
     mcl: u64,
     mcc: u64,
     mpl: u64,
@@ -68,8 +67,7 @@ pub extern "C" fn wotskrale_path_range_compare_ends(
 }
 
 // Whether there is a closed range from a start to an end: no where it would include nothing.
-#[unsafe(no_mangle)]
-pub extern "C" fn wotskrale_path_range_new_closed(
+pub fn wotskrale_path_range_new_closed(
     mcl: u64,
     mcc: u64,
     mpl: u64,
@@ -84,8 +82,7 @@ pub extern "C" fn wotskrale_path_range_new_closed(
 }
 
 // Whether a range includes a path.
-#[unsafe(no_mangle)]
-pub extern "C" fn wotskrale_path_range_includes(
+pub fn wotskrale_path_range_includes(
     mcl: u64,
     mcc: u64,
     mpl: u64,
@@ -107,8 +104,7 @@ pub extern "C" fn wotskrale_path_range_includes(
 }
 
 // Whether a range includes another: by their starts and ends.
-#[unsafe(no_mangle)]
-pub extern "C" fn wotskrale_path_range_includes_range(
+pub fn wotskrale_path_range_includes_range(
     mcl: u64,
     mcc: u64,
     mpl: u64,
@@ -133,8 +129,7 @@ pub extern "C" fn wotskrale_path_range_includes_range(
 }
 
 // The order of two ranges: by start, then by end.
-#[unsafe(no_mangle)]
-pub extern "C" fn wotskrale_path_range_compare(
+pub fn wotskrale_path_range_compare(
     mcl: u64,
     mcc: u64,
     mpl: u64,

@@ -1,5 +1,6 @@
 // The intersection of two ranges of paths (`path_range_intersection`) for a host in another language. Ranges are passed as in
 // `host_path_range`; the call refuses 1, then 3, then 5.
+#![tactic(auto)]
 
 ghost use Rattle.std.specs.Prelude.{◌++◌, ◌≡◌};
 ghost use Rattle.willow.specs.Paths.{compare_paths};
@@ -18,7 +19,7 @@ use willow::Limits;
 // An intersection as an answer: 0, a refusal's number or 255 for none; whose start stands (0 the first's, 1 the second's), the kind of
 // its end, and whose end stands; zeros unless there is one, and 0 beside kind 0.
 #[repr(C)]
-#[derive(Drop)]
+#[derive(Clone, Copy)]
 pub struct SidesAnswer {
     pub status: u64,
     pub start: u64,
@@ -55,8 +56,7 @@ fn met(m: SidesMet) -> SidesAnswer
 }
 
 // Whose start and whose end the range of the paths in both has.
-#[unsafe(no_mangle)]
-pub extern "C" fn wotskrale_path_range_intersection(
+pub fn wotskrale_path_range_intersection(
     mcl: u64,
     mcc: u64,
     mpl: u64,

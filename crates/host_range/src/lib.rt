@@ -2,6 +2,7 @@
 //
 // A range is three numbers: its start, the kind of its end (0 open, 1 closed) and its end; an end is the last two of them. A
 // number beside kind 0 is not read. Any other kind gets 3, before anything else is looked at.
+#![tactic(auto)]
 
 ghost use Rattle.std.specs.Prelude.{◌≡◌};
 ghost use Rattle.willow.specs.Orders.{compare_numbers, order_number};
@@ -19,7 +20,7 @@ use willow::{Asked, Compared, RangeEnd, Refusal};
 
 // A range as an answer: 0, a refusal's number or 255 for none; then the range, zeros unless there is one, and 0 beside kind 0.
 #[repr(C)]
-#[derive(Drop)]
+#[derive(Clone, Copy)]
 pub struct RangeAnswer {
     pub status: u64,
     pub start: u64,
@@ -28,13 +29,13 @@ pub struct RangeAnswer {
 }
 
 // What numbers from the host stand for: two ends, two ranges; bad where a kind is.
-#[derive(Drop)]
+#[derive(Clone, Copy)]
 pub(crate) enum EndsRead {
     Bad,
     Are(RangeEnd, RangeEnd),
 }
 
-#[derive(Drop)]
+#[derive(Clone, Copy)]
 pub(crate) enum RangesRead {
     Bad,
     Are(Range, Range),
@@ -108,8 +109,7 @@ fn met(m: Met) -> RangeAnswer
 }
 
 // Whether an end is above a value.
-#[unsafe(no_mangle)]
-pub extern "C" fn wotskrale_range_end_above(kind: u64, end: u64, val: u64) -> Answer
+pub fn wotskrale_range_end_above(kind: u64, end: u64, val: u64) -> Answer
     ensures { result ≡ given yes_number (on_end kind end (λ e. value (end_above compare_numbers e val))) }
 {
     match kinds::read_end(kind, end) {
@@ -119,8 +119,7 @@ pub extern "C" fn wotskrale_range_end_above(kind: u64, end: u64, val: u64) -> An
 }
 
 // The order of two ends.
-#[unsafe(no_mangle)]
-pub extern "C" fn wotskrale_range_compare_ends(kind: u64, end: u64, kind2: u64, end2: u64) -> Answer
+pub fn wotskrale_range_compare_ends(kind: u64, end: u64, kind2: u64, end2: u64) -> Answer
     ensures { result ≡ given order_number (on_ends kind end kind2 end2 (λ d e. value (compare_ends compare_numbers d e))) }
 {
     match read_ends(kind, end, kind2, end2) {
@@ -130,8 +129,7 @@ pub extern "C" fn wotskrale_range_compare_ends(kind: u64, end: u64, kind2: u64, 
 }
 
 // Whether a range is open.
-#[unsafe(no_mangle)]
-pub extern "C" fn wotskrale_range_is_open(start: u64, kind: u64, end: u64) -> Answer
+pub fn wotskrale_range_is_open(start: u64, kind: u64, end: u64) -> Answer
     ensures { result ≡ given yes_number (on_range start kind end (λ s. value (is_open s.end))) }
 {
     match kinds::read_range(start, kind, end) {
@@ -141,16 +139,14 @@ pub extern "C" fn wotskrale_range_is_open(start: u64, kind: u64, end: u64) -> An
 }
 
 // The range from a start to a value, none where it would include nothing.
-#[unsafe(no_mangle)]
-pub extern "C" fn wotskrale_range_new_closed(start: u64, end: u64) -> RangeAnswer
+pub fn wotskrale_range_new_closed(start: u64, end: u64) -> RangeAnswer
     ensures { result ≡ given_range (range_or (new_closed compare_numbers start end)) }
 {
     met(range::new_closed(start, end))
 }
 
 // Whether a range includes a value.
-#[unsafe(no_mangle)]
-pub extern "C" fn wotskrale_range_includes(start: u64, kind: u64, end: u64, val: u64) -> Answer
+pub fn wotskrale_range_includes(start: u64, kind: u64, end: u64, val: u64) -> Answer
     ensures { result ≡ given yes_number (on_range start kind end (λ s. value (includes compare_numbers s val))) }
 {
     match kinds::read_range(start, kind, end) {
@@ -160,8 +156,7 @@ pub extern "C" fn wotskrale_range_includes(start: u64, kind: u64, end: u64, val:
 }
 
 // Whether a range includes another.
-#[unsafe(no_mangle)]
-pub extern "C" fn wotskrale_range_includes_range(
+pub fn wotskrale_range_includes_range(
     start: u64,
     kind: u64,
     end: u64,
@@ -178,8 +173,7 @@ pub extern "C" fn wotskrale_range_includes_range(
 }
 
 // The range of the values that lie in both.
-#[unsafe(no_mangle)]
-pub extern "C" fn wotskrale_range_intersection(
+pub fn wotskrale_range_intersection(
     start: u64,
     kind: u64,
     end: u64,
@@ -196,8 +190,7 @@ pub extern "C" fn wotskrale_range_intersection(
 }
 
 // The order of two ranges.
-#[unsafe(no_mangle)]
-pub extern "C" fn wotskrale_range_compare(
+pub fn wotskrale_range_compare(
     start: u64,
     kind: u64,
     end: u64,

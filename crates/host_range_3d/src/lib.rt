@@ -3,6 +3,7 @@
 // A 3d range is a start, the kind of the end (0 open, 1 closed) and an end, of its subspaces, of its paths and of its times. Those of
 // the paths are packed paths, each a buffer with a count beside it. What stands beside kind 0 is not read. A slice is a pointer and
 // then a length; limits are three numbers MCL, MCC, MPL. Every call refuses 1, then 3, then 5.
+#![tactic(auto)]
 
 ghost use Rattle.std.specs.Prelude.{[], ◌∷◌, ◌++◌, ◌≡◌};
 ghost use Rattle.willow.specs.Answers.{path_in};
@@ -22,8 +23,7 @@ use range_3d_questions::{compare, could_be_pruned_by_triplet, includes_range, in
 use willow::{Asked, Compared, Limits};
 
 // Whether a 3d range includes an entry of this subspace, path and timestamp.
-#[unsafe(no_mangle)]
-pub extern "C" fn wotskrale_range_3d_includes_triplet(
+pub fn wotskrale_range_3d_includes_triplet(
     mcl: u64,
     mcc: u64,
     mpl: u64,
@@ -67,8 +67,7 @@ pub extern "C" fn wotskrale_range_3d_includes_triplet(
 }
 
 // Whether an entry of this subspace, path and timestamp can prune entries of a 3d range.
-#[unsafe(no_mangle)]
-pub extern "C" fn wotskrale_range_3d_could_be_pruned_by_triplet(
+pub fn wotskrale_range_3d_could_be_pruned_by_triplet(
     mcl: u64,
     mcc: u64,
     mpl: u64,
@@ -112,8 +111,7 @@ pub extern "C" fn wotskrale_range_3d_could_be_pruned_by_triplet(
 }
 
 // Whether a 3d range includes another.
-#[unsafe(no_mangle)]
-pub extern "C" fn wotskrale_range_3d_includes_range(
+pub fn wotskrale_range_3d_includes_range(
     mcl: u64,
     mcc: u64,
     mpl: u64,
@@ -170,8 +168,7 @@ pub extern "C" fn wotskrale_range_3d_includes_range(
 }
 
 // The order of two 3d ranges.
-#[unsafe(no_mangle)]
-pub extern "C" fn wotskrale_range_3d_compare(
+pub fn wotskrale_range_3d_compare(
     mcl: u64,
     mcc: u64,
     mpl: u64,

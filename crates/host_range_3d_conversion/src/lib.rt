@@ -1,6 +1,7 @@
 // An area as a 3d range (`range_3d_intersection`, `from_area`) for a host in another language. The area is passed as in `host_area`;
 // the call refuses 1, then 3, then 5, then 15. Nothing is required of the host but that a buffer is as long as it says and that the buffer
 // to write overlaps no other.
+#![tactic(auto)]
 
 ghost use Rattle.std.specs.Prelude.{◌≡◌};
 ghost use Rattle.willow.specs.Answers.{on_path, packed_outcome, path_in, written_buffer, written_length};
@@ -20,7 +21,7 @@ use willow::Limits;
 // An area as a 3d range: 0 or a refusal's number; its ranges of numbers; the counts of its paths, where the start is the area's own
 // path and the end was written; and how many bytes were written. Zeros unless there is one, and 0 beside kind 0.
 #[repr(C)]
-#[derive(Drop)]
+#[derive(Clone, Copy)]
 pub struct ConvertedAnswer {
     pub status: u64,
     pub subspace_start: u64,
@@ -91,8 +92,7 @@ fn converted(c: Converted) -> ConvertedAnswer
 }
 
 // The 3d range that includes the same triplets as an area. Its end is written packed to the front of a buffer, where there is one.
-#[unsafe(no_mangle)]
-pub extern "C" fn wotskrale_range_3d_from_area(
+pub fn wotskrale_range_3d_from_area(
     mcl: u64,
     mcc: u64,
     mpl: u64,

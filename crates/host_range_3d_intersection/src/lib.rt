@@ -1,5 +1,6 @@
 // The intersection of two 3d ranges (`range_3d_intersection`) for a host in another language. 3d ranges are passed as in
 // `host_range_3d`; the call refuses 1, then 3, then 5.
+#![tactic(auto)]
 
 ghost use Rattle.std.specs.Prelude.{◌++◌, ◌≡◌};
 ghost use Rattle.convention.specs.Exports.{limits_of};
@@ -18,7 +19,7 @@ use willow::Limits;
 // An intersection as an answer: 0, a refusal's number or 255 for none; its ranges of numbers; whose start its range of paths has (0
 // the first's, 1 the second's), the kind of its end, and whose end it has. Zeros unless there is one, and 0 beside kind 0.
 #[repr(C)]
-#[derive(Drop)]
+#[derive(Clone, Copy)]
 pub struct Range3dAnswer {
     pub status: u64,
     pub subspace_start: u64,
@@ -86,8 +87,7 @@ fn met(m: Range3dMet) -> Range3dAnswer
 }
 
 // The 3d range of the triplets that lie in both.
-#[unsafe(no_mangle)]
-pub extern "C" fn wotskrale_range_3d_intersection(
+pub fn wotskrale_range_3d_intersection(
     mcl: u64,
     mcc: u64,
     mpl: u64,

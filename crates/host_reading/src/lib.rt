@@ -3,6 +3,7 @@
 //
 // A slice is a pointer and then a length; limits are three numbers MCL, MCC, MPL. Nothing is required of the host but that a
 // buffer is as long as it says.
+#![tactic(auto)]
 
 ghost use Rattle.std.specs.Prelude.{◌≡◌};
 ghost use Rattle.willow.specs.Answers.{on_path, path_refusal};
@@ -14,66 +15,42 @@ use convention::{Answer, asked, counted, tested};
 use willow::Limits;
 
 // Whether a buffer with a count is a path: 0, 1 or 5.
-#[unsafe(no_mangle)]
-pub extern "C" fn wotskrale_path_test(mcl: u64, mcc: u64, mpl: u64, b: &[u8], count: u64) -> u64
+pub fn wotskrale_path_test(mcl: u64, mcc: u64, mpl: u64, b: &[u8], count: u64) -> u64
     ensures { result ≡ refusal_status (path_refusal (limits_of mcl mcc mpl) b.now count) }
 {
     tested(lent_path::test(Limits { mcl, mcc, mpl }, b, count))
 }
 
 // Whether bytes are a component: 0, 1 or 9.
-#[unsafe(no_mangle)]
-pub extern "C" fn wotskrale_component_test(mcl: u64, mcc: u64, mpl: u64, c: &[u8]) -> u64
+pub fn wotskrale_component_test(mcl: u64, mcc: u64, mpl: u64, c: &[u8]) -> u64
     ensures { result ≡ refusal_status (component_refusal (limits_of mcl mcc mpl) c.now) }
 {
     tested(lent_path::test_component(Limits { mcl, mcc, mpl }, c))
 }
 
 // How many components.
-#[unsafe(no_mangle)]
-pub extern "C" fn wotskrale_path_component_count(
-    mcl: u64,
-    mcc: u64,
-    mpl: u64,
-    b: &[u8],
-    count: u64,
-) -> Answer
+pub fn wotskrale_path_component_count(mcl: u64, mcc: u64, mpl: u64, b: &[u8], count: u64) -> Answer
     ensures { result ≡ given itself (on_path (limits_of mcl mcc mpl) b.now count count_of) }
 {
     counted(reading::component_count(Limits { mcl, mcc, mpl }, b, count))
 }
 
 // Whether there is no component.
-#[unsafe(no_mangle)]
-pub extern "C" fn wotskrale_path_is_empty(
-    mcl: u64,
-    mcc: u64,
-    mpl: u64,
-    b: &[u8],
-    count: u64,
-) -> Answer
+pub fn wotskrale_path_is_empty(mcl: u64, mcc: u64, mpl: u64, b: &[u8], count: u64) -> Answer
     ensures { result ≡ given yes_number (on_path (limits_of mcl mcc mpl) b.now count emptiness_of) }
 {
     asked(reading::is_empty(Limits { mcl, mcc, mpl }, b, count))
 }
 
 // How many bytes in all components.
-#[unsafe(no_mangle)]
-pub extern "C" fn wotskrale_path_length(
-    mcl: u64,
-    mcc: u64,
-    mpl: u64,
-    b: &[u8],
-    count: u64,
-) -> Answer
+pub fn wotskrale_path_length(mcl: u64, mcc: u64, mpl: u64, b: &[u8], count: u64) -> Answer
     ensures { result ≡ given itself (on_path (limits_of mcl mcc mpl) b.now count length_of) }
 {
     counted(reading::path_length(Limits { mcl, mcc, mpl }, b, count))
 }
 
 // How many bytes in the first n components.
-#[unsafe(no_mangle)]
-pub extern "C" fn wotskrale_path_length_of_prefix(
+pub fn wotskrale_path_length_of_prefix(
     mcl: u64,
     mcc: u64,
     mpl: u64,
@@ -87,8 +64,7 @@ pub extern "C" fn wotskrale_path_length_of_prefix(
 }
 
 // The count with which the same buffer is the prefix of n components.
-#[unsafe(no_mangle)]
-pub extern "C" fn wotskrale_path_create_prefix(
+pub fn wotskrale_path_create_prefix(
     mcl: u64,
     mcc: u64,
     mpl: u64,
@@ -102,8 +78,7 @@ pub extern "C" fn wotskrale_path_create_prefix(
 }
 
 // The length of component i.
-#[unsafe(no_mangle)]
-pub extern "C" fn wotskrale_path_component_length(
+pub fn wotskrale_path_component_length(
     mcl: u64,
     mcc: u64,
     mpl: u64,

@@ -3,6 +3,7 @@
 //
 // A slice is a pointer and then a length; limits are three numbers MCL, MCC, MPL. Nothing is required of the host but that a
 // buffer is as long as it says.
+#![tactic(auto)]
 
 ghost use Rattle.std.specs.Prelude.{◌≡◌};
 ghost use Rattle.willow.specs.Answers.{on_paths};
@@ -14,8 +15,7 @@ use convention::{Answer, asked, compared, counted};
 use willow::Limits;
 
 // The order of two paths.
-#[unsafe(no_mangle)]
-pub extern "C" fn wotskrale_path_compare(
+pub fn wotskrale_path_compare(
     mcl: u64,
     mcc: u64,
     mpl: u64,
@@ -30,8 +30,7 @@ pub extern "C" fn wotskrale_path_compare(
 }
 
 // Whether two paths are equal.
-#[unsafe(no_mangle)]
-pub extern "C" fn wotskrale_path_equal(
+pub fn wotskrale_path_equal(
     mcl: u64,
     mcc: u64,
     mpl: u64,
@@ -46,8 +45,7 @@ pub extern "C" fn wotskrale_path_equal(
 }
 
 // Whether a is a prefix of b.
-#[unsafe(no_mangle)]
-pub extern "C" fn wotskrale_path_is_prefix_of(
+pub fn wotskrale_path_is_prefix_of(
     mcl: u64,
     mcc: u64,
     mpl: u64,
@@ -62,8 +60,7 @@ pub extern "C" fn wotskrale_path_is_prefix_of(
 }
 
 // Whether b is a prefix of a.
-#[unsafe(no_mangle)]
-pub extern "C" fn wotskrale_path_is_prefixed_by(
+pub fn wotskrale_path_is_prefixed_by(
     mcl: u64,
     mcc: u64,
     mpl: u64,
@@ -78,8 +75,7 @@ pub extern "C" fn wotskrale_path_is_prefixed_by(
 }
 
 // Whether one of the two is a prefix of the other.
-#[unsafe(no_mangle)]
-pub extern "C" fn wotskrale_path_is_related(
+pub fn wotskrale_path_is_related(
     mcl: u64,
     mcc: u64,
     mpl: u64,
@@ -94,8 +90,7 @@ pub extern "C" fn wotskrale_path_is_related(
 }
 
 // How many components the longest common prefix has.
-#[unsafe(no_mangle)]
-pub extern "C" fn wotskrale_path_longest_common_prefix(
+pub fn wotskrale_path_longest_common_prefix(
     mcl: u64,
     mcc: u64,
     mpl: u64,

@@ -4,6 +4,7 @@
 // subspace, a packed path with its count, its timestamp, its payload length and its digest, in this order. A slice is a pointer and
 // then a length, a digest a pointer to 32 bytes. Nothing is required of the host but that a buffer is as long as it says and that a
 // buffer to write overlaps no other.
+#![tactic(auto)]
 
 ghost use Rattle.std.specs.Prelude.{◌≡◌};
 ghost use Rattle.willow.specs.Answers.{written_buffer, written_length};
@@ -21,7 +22,7 @@ use willow::Limits;
 // What an offer is answered: 0 or a refusal's number; taken 0, outdated 1 or repeat 2; how many entries a taken offer pruned. Zeros
 // behind a refusal.
 #[repr(C)]
-#[derive(Drop)]
+#[derive(Clone, Copy)]
 pub struct OfferAnswer {
     pub status: u64,
     pub answer: u64,
@@ -57,8 +58,7 @@ fn offered(o: Offered) -> OfferAnswer
 }
 
 // A fresh store of these sizes and this namespace written to the front of a buffer; answers its length. Refuses 1, then 15.
-#[unsafe(no_mangle)]
-pub extern "C" fn wotskrale_store_fresh(
+pub fn wotskrale_store_fresh(
     mcl: u64,
     mcc: u64,
     mpl: u64,
@@ -73,16 +73,14 @@ pub extern "C" fn wotskrale_store_fresh(
 }
 
 // Whether a buffer begins with a store: 0 or 2.
-#[unsafe(no_mangle)]
-pub extern "C" fn wotskrale_store_test(sheet: &[u8]) -> u64
+pub fn wotskrale_store_test(sheet: &[u8]) -> u64
     ensures { result ≡ refusal_status (store_refusal sheet.now) }
 {
     tested(store_test::test(sheet))
 }
 
 // An entry offered. Refuses 2, then 4, then 5, then 13, then 14.
-#[unsafe(no_mangle)]
-pub extern "C" fn wotskrale_store_offer(
+pub fn wotskrale_store_offer(
     sheet: &mut [u8],
     namespace: u64,
     subspace: u64,

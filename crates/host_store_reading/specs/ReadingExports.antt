@@ -19,7 +19,7 @@ store_answer n = record {
   count = n.count;
   namespace = n.namespace;
   held = n.held;
-  let_go_lem = n.let_go;
+  let_go = n.let_go;
 }
 
 abbrev pub no_store : ℕ → StoreAnswer
@@ -32,7 +32,7 @@ no_store status = record {
   count = 0;
   namespace = 0;
   held = 0;
-  let_go_lem = 0;
+  let_go = 0;
 }
 
 abbrev pub given_numbers : Outcome StoreNumbers → StoreAnswer

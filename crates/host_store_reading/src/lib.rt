@@ -1,6 +1,7 @@
 // The calls of `store_reading` for a host in another language: the numbers of a store, and its entries by their position from 0. A
 // slice is a pointer and then a length. Nothing is required of the host but that a buffer is as long as it says and that a buffer to
 // write overlaps no other.
+#![tactic(auto)]
 
 ghost use Rattle.std.specs.Prelude.{◌≡◌};
 ghost use Rattle.willow.specs.Answers.{counted_outcome, written_buffer, written_length};
@@ -16,7 +17,7 @@ use willow::Counted;
 // The numbers of a store: 0 or 2; its limits and capacity, how many entries it holds, its namespace, and the bytes held and let go.
 // Zeros behind a refusal.
 #[repr(C)]
-#[derive(Drop)]
+#[derive(Clone, Copy)]
 pub struct StoreAnswer {
     pub status: u64,
     pub mcl: u64,
@@ -31,7 +32,7 @@ pub struct StoreAnswer {
 
 // An entry: 0, 2, or 255 for none; its head, and how many components its path has. Zeros unless there is one.
 #[repr(C)]
-#[derive(Drop)]
+#[derive(Clone, Copy)]
 pub struct EntryAnswer {
     pub status: u64,
     pub subspace: u64,
@@ -114,24 +115,21 @@ fn entry_read(e: EntryRead) -> EntryAnswer
 }
 
 // The numbers before a store's heads. Refuses 2.
-#[unsafe(no_mangle)]
-pub extern "C" fn wotskrale_store_numbers(sheet: &[u8]) -> StoreAnswer
+pub fn wotskrale_store_numbers(sheet: &[u8]) -> StoreAnswer
     ensures { result ≡ given_numbers (numbers_read sheet.now) }
 {
     numbers_read(store_reading::numbers(sheet))
 }
 
 // Entry i but for its path; none past the last. Refuses 2.
-#[unsafe(no_mangle)]
-pub extern "C" fn wotskrale_store_entry(sheet: &[u8], i: u64) -> EntryAnswer
+pub fn wotskrale_store_entry(sheet: &[u8], i: u64) -> EntryAnswer
     ensures { result ≡ given_entry (entry_read sheet.now i) }
 {
     entry_read(store_reading::entry(sheet, i))
 }
 
 // The packed path of entry i written to the front of a buffer; answers its length, none past the last. Refuses 2, then 15.
-#[unsafe(no_mangle)]
-pub extern "C" fn wotskrale_store_entry_path(sheet: &[u8], i: u64, out: &mut [u8]) -> Answer
+pub fn wotskrale_store_entry_path(sheet: &[u8], i: u64, out: &mut [u8]) -> Answer
     ensures value { result ≡ given itself (written_length (packed_of (entry_read sheet.now i)) out.old) }
     ensures out_after { out.new ≡ written_buffer (packed_of (entry_read sheet.now i)) out.old }
 {

@@ -3,6 +3,7 @@
 //
 // A slice is a pointer and then a length; limits are three numbers MCL, MCC, MPL. Nothing is required of the host but that a
 // buffer is as long as it says and that the buffer to write overlaps no other.
+#![tactic(auto)]
 
 ghost use Rattle.std.specs.Prelude.{◌≡◌};
 ghost use Rattle.willow.specs.Answers.{on_path, on_paths, packed_outcome, written_buffer, written_length};
@@ -14,8 +15,7 @@ use convention::{Answer, counted};
 use willow::Limits;
 
 // Component i written to the front of out: its length.
-#[unsafe(no_mangle)]
-pub extern "C" fn wotskrale_path_write_component(
+pub fn wotskrale_path_write_component(
     mcl: u64,
     mcc: u64,
     mpl: u64,
@@ -31,8 +31,7 @@ pub extern "C" fn wotskrale_path_write_component(
 }
 
 // The packed prefix of n components written to the front of out: its length.
-#[unsafe(no_mangle)]
-pub extern "C" fn wotskrale_path_write_prefix(
+pub fn wotskrale_path_write_prefix(
     mcl: u64,
     mcc: u64,
     mpl: u64,
@@ -48,8 +47,7 @@ pub extern "C" fn wotskrale_path_write_prefix(
 }
 
 // The packed longest common prefix written to the front of out: its length.
-#[unsafe(no_mangle)]
-pub extern "C" fn wotskrale_path_write_longest_common_prefix(
+pub fn wotskrale_path_write_longest_common_prefix(
     mcl: u64,
     mcc: u64,
     mpl: u64,

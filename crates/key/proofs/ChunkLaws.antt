@@ -1,12 +1,11 @@
 -- Feeding a chunk takes at least one byte of it, so a loop that feeds what is left ends; and what is held goes on with each byte.
-use Prim.Native.Nat.{ℕ, zero, suc, ◌+◌, ◌-◌, ◌^◌, ◌≤◌, ◌<◌}
+use Prim.Native.Nat.{ℕ, zero, suc, ◌+◌, ◌-◌, ◌≤◌, ◌<◌}
 use mathlib.Core.List.{List}
 use mathlib.Core.Logic.{◌⊎◌, inl, inr}
 use mathlib.Core.Path.{◌≡◌, sym, ◌∙◌, ap}
 use native.Mathlib.Omega.{arith}
 use lib.ListN.{length, take, drop, length-drop, length-take}
-use lib.Seq.{take-add, take_all, take-take}
-use Rattle.willow.specs.Limits.{max_word}
+use lib.Seq.{take-add, take-take}
 use Rattle.keyform.specs.Answering.{max_answer, Held, held_after, printed_by}
 use Rattle.keyform.proofs.PrintingLaws.{held_append}
 use Rattle.keyinput.specs.declared.inner.Fed.{Fed}
@@ -58,17 +57,6 @@ module _ (h : Held) (chunk : List ℕ) (from : ℕ) (out : List ℕ) (r : Fed) (
   pub turned : (h₀ : Held) → h ≡ held_after h₀ (take from chunk) → Turn h₀ chunk from r line'
   turned h₀ e = record { within = fed_within; some = fed_some; holds = fed_on h₀ e }
 
-pub from_fits : (from used n : ℕ) → from + used ≤ n → n ≤ max_word → from + used < 2 ^ 64
-from_fits from used n h k = omega arith
-
--- a chunk that has come to its end is taken whole
-pub taken_whole : (h₀ h : Held) (chunk : List ℕ) (from : ℕ) → h ≡ held_after h₀ (take from chunk) → length chunk ≤ from → h ≡ held_after h₀ chunk
-taken_whole h₀ h chunk from e over = e ∙ ap (held_after h₀) (take_all from chunk over)
-
 -- lengths that stay
 pub still_within : (n m m' : ℕ) → n ≤ m → m' ≡ m → n ≤ m'
 still_within n m m' h e = omega arith
-
--- less is left
-pub less : (from used n : ℕ) → from + used ≤ n → 0 < used → n - (from + used) < n - from
-less from used n h k = omega arith

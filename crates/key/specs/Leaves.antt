@@ -1,6 +1,5 @@
 -- What the functions that answer a part of the input leave behind, in the words of crate `keyinput`.
-use Rattle.std.specs.Prelude.{true, List, ◌≡◌, ℕ, ℤ, length, take}
-use Rattle.io.specs.Counts.{clamp_len}
+use Rattle.std.specs.Prelude.{true, List, [], Result, Ok, Err, ◌≡◌, ℕ, min, length, take}
 use Rattle.keyform.specs.Answering.{Held, held_after}
 use Rattle.keyinput.specs.Held.{Fits, held_in}
 use Rattle.key.specs.declared.Went.{Went}
@@ -12,5 +11,6 @@ pub record Leaves (h : Held) (part : List ℕ) (r : Went) (line' : List ℕ) : T
   pub whole : r.more ≡ true → held_in r.pending line' ≡ held_after h part
 
 -- The bytes that a read brought: as many at the front of its buffer as it answers, and none where it failed.
-abbrev pub brought_in : ℤ → List ℕ → List ℕ
-brought_in got buffer = take (clamp_len got (length buffer)) buffer
+abbrev pub brought_in : {E : Type 0} → Result ℕ E → List ℕ → List ℕ
+brought_in (Ok got) buffer = take (min got (length buffer)) buffer
+brought_in (Err e) buffer = []

@@ -3,9 +3,11 @@
 // read or write that fails ends the program, and a line that was begun is then not answered.
 //
 // It is proved that, unless a write fails, what is held of a line is what all the bytes that were read leave of it, and in `keyinput`
-// what stands in the buffer that is written. Nothing is proved of standard output: `io::write_all` promises nothing of it.
+// what stands in the buffer that is written. Nothing is proved of standard output: its `write_all` promises nothing of it.
 
-ghost use Rattle.std.specs.Prelude.{false, ◌≡◌, ◌+◌, ◌≤◌, pos, length};
+#![tactic(auto)]
+
+ghost use Rattle.std.specs.Prelude.{false, Ok, ◌≡◌, ◌+◌, ◌≤◌, length};
 ghost use Rattle.keyform.specs.Answering.{max_answer};
 ghost use Rattle.keyinput.specs.Held.{Fits, held_in, Scratch};
 ghost use Rattle.key.specs.Leaves.{brought_in, Leaves};
@@ -14,10 +16,11 @@ use keyask::inner::{MAX_BYTES, MAX_PACKED, MAX_SIZES};
 use keyform::MAX_LINE;
 use keyinput::inner;
 use keyinput::inner::Pending;
-use libc::{STDIN_FILENO, STDOUT_FILENO};
+use std::io;
+use std::io::{ErrorKind, Read, Stdin, Stdout};
 
 // Whether there is more to read, and what is held of the line that has not ended.
-#[derive(Drop)]
+#[derive(Clone, Copy)]
 struct Went {
     more: bool,
     pending: Pending,
@@ -26,6 +29,7 @@ struct Went {
 // The bytes of a chunk: the answers to the lines that it ends are written, as many at a time as there is room for. Unless a write
 // fails the whole chunk is taken.
 fn answer_chunk(
+    to: &Stdout,
     p: Pending,
     line: &mut [u8],
     chunk: &[u8],
@@ -54,7 +58,7 @@ fn answer_chunk(
         );
         let n = fed.written;
         s = fed.pending;
-        if !io::write_all(STDOUT_FILENO, &out[0..n]) {
+        if to.write_all(&out[0..n]).is_err() {
             return Went {
                 more: false,
                 pending: s,
@@ -70,6 +74,7 @@ fn answer_chunk(
 
 // What the input's end adds.
 fn answer_last(
+    to: &Stdout,
     p: Pending,
     line: &[u8],
     lengths: &mut [u8],
@@ -82,13 +87,14 @@ fn answer_last(
 {
     let n = inner::finish(p, line, lengths, bytes, packed, next, out);
     if n <= out.len() {
-        io::write_all(STDOUT_FILENO, &out[0..n]);
+        let _ = to.write_all(&out[0..n]);
     }
 }
 
-// What a read brought: `got` bytes at the front of the chunk, none where the input has ended, or a negative number where it failed.
+// What a read brought: `got` bytes at the front of the chunk, none where the input has ended, or an error where it failed.
 fn answer_read(
-    got: isize,
+    to: &Stdout,
+    got: io::Result<usize>,
     p: Pending,
     line: &mut [u8],
     chunk: &[u8],
@@ -100,28 +106,32 @@ fn answer_read(
 ) -> Went
     requires { Fits p line.old × Scratch lengths.old bytes.old packed.old next.old × (max_answer + 1 ≤ length out.old) }
     ensures leaves { Leaves (held_in p line.old) (brought_in got chunk.now) result line.new }
-    ensures more_value { got ≡ pos 0 → result.more ≡ false }
+    ensures more_value { got ≡ Ok 0 → result.more ≡ false }
 {
-    if got < 0 {
-        // A signal came before a byte did: the read is made again.
-        return Went {
-            more: os::errno() == libc::EINTR,
-            pending: p,
-        };
+    match got {
+        Err(e) => {
+            // Where a signal came before a byte did, the read is made again.
+            let more = e.kind() == ErrorKind::Interrupted;
+            Went { more, pending: p }
+        }
+        Ok(0) => {
+            answer_last(to, p, line, lengths, bytes, packed, next, out);
+            Went {
+                more: false,
+                pending: p,
+            }
+        }
+        Ok(count) => {
+            let n = count.min(chunk.len());
+            answer_chunk(to, p, line, &chunk[..n], lengths, bytes, packed, next, out)
+        }
     }
-    if got == 0 {
-        answer_last(p, line, lengths, bytes, packed, next, out);
-        return Went {
-            more: false,
-            pending: p,
-        };
-    }
-    let n = io::count(got, chunk);
-    answer_chunk(p, line, &chunk[..n], lengths, bytes, packed, next, out)
 }
 
 // One read. Nothing is said of what is held beside that it fits: what a read brings is not known from outside.
 fn turn(
+    from: &mut Stdin,
+    to: &Stdout,
     p: Pending,
     line: &mut [u8],
     lengths: &mut [u8],
@@ -134,12 +144,14 @@ fn turn(
     ensures { Fits result.pending line.new }
 {
     let mut chunk = [0u8; 65536];
-    let got = libc::read(STDIN_FILENO, &mut chunk);
-    answer_read(got, p, line, &chunk, lengths, bytes, packed, next, out)
+    let got = from.read(&mut chunk);
+    answer_read(to, got, p, line, &chunk, lengths, bytes, packed, next, out)
 }
 
 // The count of turns is there so that the loop is seen to end: no input uses it up.
-fn main() {
+fn main(rt: HostRuntime) {
+    let mut from = rt.stdin();
+    let to = rt.stdout();
     let mut line = [0u8; MAX_LINE];
     let mut lengths = [0u8; MAX_SIZES];
     let mut bytes = [0u8; MAX_BYTES];
@@ -150,6 +162,8 @@ fn main() {
     let mut turns = u64::MAX;
     while 0 < turns {
         let t = turn(
+            &mut from,
+            &to,
             s,
             &mut line,
             &mut lengths,

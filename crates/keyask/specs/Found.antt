@@ -7,7 +7,7 @@ use Rattle.willow.specs.declared.Limits.{Limits}
 use Rattle.willow.specs.declared.Refusal.TheVariants.{BadKind}
 use Rattle.willow.specs.Answers.{counted_outcome, packed_outcome, written_buffer, written_length}
 use Rattle.willow.specs.Construction.{admitted}
-use Rattle.willow.specs.Limits.{max_mCC, max_mPL, Accepted}
+use Rattle.willow.specs.Limits.{max_mcc, max_mpl, Accepted}
 use Rattle.willow.specs.Packed.{pack, Packed, packed_count}
 use Rattle.willow.specs.Paths.{Path, Valid}
 use Rattle.willow.specs.Refusals.{Outcome, refused, absent, value}
@@ -20,7 +20,7 @@ use Rattle.keyask.specs.declared.inner.Found.TheVariants as found
 
 -- The most bytes of a packed path under limits within the bounds.
 abbrev pub max_packed : ℕ
-max_packed = 8 + 8 * max_mCC + max_mPL
+max_packed = 8 + 8 * max_mcc + max_mpl
 
 -- The most bytes that the lengths of a path in a line take, and the most that its bytes take: of every two bytes of a line one
 -- length and one byte can come at most.

@@ -22,7 +22,7 @@ pub const MAX_BYTES: usize = MAX_LINE / 2;
 pub const MAX_PACKED: usize = 8 + 8 * MAX_MCC as usize + MAX_MPL as usize;
 
 // What a question comes to: refused, none, or a path that stands packed at the front of a buffer, with its size and its count.
-#[derive(Drop)]
+#[derive(Clone, Copy)]
 pub enum Found {
     Refused(Refusal),
     Nothing,

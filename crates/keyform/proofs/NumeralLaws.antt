@@ -68,7 +68,7 @@ field_from_lem : (left v : ℕ) (s : List ℕ) (f : Field) → field_from left v
 field_from_lem left v [] f = nothing_found f
 field_from_lem left v (b ∷ bs) f = by_tests (λ o. o ≡ some f → FieldOf left v (b ∷ bs) f) _ _
     (λ sp. by_test (λ o. o ≡ some f → FieldOf left v (b ∷ bs) f) _ (λ few. field_ended left v b bs f (eqb-true _ _ sp) (ltb-true _ _ few)) (λ no. nothing_found f))
-    (λ digit e. let h = both_true _ _ digit in field_more left v b bs f h.0 (ltb-true _ _ h.1) (field_from_lem _ _ bs f e))
+    (λ digit e. let h = both_true _ _ digit in field_more left v b bs f h.0 (ltb-true _ _ h.1) (field_from_lem (left - 1) (decimal_digits * v + (b - digit_zero)) bs f e))
     (λ other no. nothing_found f)
 
 pub field_written : (s : List ℕ) (f : Field) → read_field s ≡ some f

@@ -90,7 +90,7 @@ longer_within (kept l) b = by_test Within _ (λ less. let h : length l < max_lin
 
 pub held_within : (h : Held) (s : List ℕ) → Within h → Within (held_after h s)
 held_within h [] w = w
-held_within h (b ∷ bs) w = held_within _ bs (by_test Within (eqb b newline) (λ e. omega arith) (λ e. longer_within h b))
+held_within h (b ∷ bs) w = held_within (cond (eqb b newline) (kept []) (longer h b)) bs (by_test Within (eqb b newline) (λ e. omega arith) (λ e. longer_within h b))
 
 -- CHUNKS one behind the other are one chunk.
 pub held_append : (h : Held) (c d : List ℕ) → held_after h (c ++ d) ≡ held_after (held_after h c) d

@@ -6,7 +6,7 @@ use Rattle.willow.specs.declared.Refusal.{Refusal}
 use Rattle.willow.specs.declared.Refusal.TheVariants.{BadKind}
 use Rattle.willow.specs.Construction.{admitted}
 use Rattle.willow.specs.LeastPaths.{greatest}
-use Rattle.willow.specs.Limits.{max_mCC, max_mPL}
+use Rattle.willow.specs.Limits.{max_mcc, max_mpl}
 use Rattle.willow.specs.Paths.{Path}
 use Rattle.willow.specs.Refusals.{refusal_number, Outcome, refused, absent, value}
 use Rattle.construction.specs.Making.{under_limits}
@@ -50,7 +50,7 @@ answer_text line = outcome_text (line_outcome line)
 -- The most bytes in an answer: the text of a path has two digits for each of its bytes, and for each of its components at most
 -- a dash and the slash behind it.
 abbrev pub max_answer : ℕ
-max_answer = 2 * max_mPL + 2 * max_mCC
+max_answer = 2 * max_mpl + 2 * max_mcc
 
 -- An answer and the newline behind it.
 unfoldable pub ended_answer : List ℕ → List ℕ

@@ -1,5 +1,6 @@
 // The form of key lines: definitions and theorems (specs/), and the bounds that the functions of the crates above go by. What holds
 // a constant against its definition is the proof of each function that tests it or makes a buffer of it.
+#![tactic(auto)]
 
 use refusals::{MAX_MCC, MAX_MPL};
 

@@ -10,7 +10,7 @@ use keyform::{MAX_ANSWER, MAX_LINE};
 use willow::Refusal;
 
 // What has come of a line: so many bytes at the front of the line buffer; `long` if more came than a line may have.
-#[derive(Drop)]
+#[derive(Clone, Copy)]
 pub struct Pending {
     pub len: usize,
     pub long: bool,
@@ -18,7 +18,7 @@ pub struct Pending {
 
 // What feeding a chunk has done: the state behind the bytes that it took, how many these are, and how many bytes of answers it
 // wrote.
-#[derive(Drop)]
+#[derive(Clone, Copy)]
 pub struct Fed {
     pub pending: Pending,
     pub used: usize,
@@ -26,7 +26,7 @@ pub struct Fed {
 }
 
 // What one byte has done: the state behind it, and the place behind the answers.
-#[derive(Drop)]
+#[derive(Clone, Copy)]
 pub struct Step {
     pub pending: Pending,
     pub place: usize,

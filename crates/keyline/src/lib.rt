@@ -1,4 +1,5 @@
 // Key lines answered, one line at a time. Crate `keyinput` has an input of many lines.
+#![tactic(auto)]
 
 ghost use Rattle.std.specs.Prelude.{◌≡◌};
 ghost use Rattle.willow.specs.Answers.{counted_outcome, written_buffer, written_length};

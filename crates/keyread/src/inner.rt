@@ -10,14 +10,14 @@ ghost use Rattle.keyread.specs.Parts.{ComponentRead, field_read, HexRead, line_r
 use willow::Limits;
 
 // A numeral and the space behind it: its number, and the place behind the space.
-#[derive(Drop)]
+#[derive(Clone, Copy)]
 pub enum Field {
     Bad,
     Read(u64, usize),
 }
 
 // A line up to its path, which stands from a place on.
-#[derive(Drop)]
+#[derive(Clone, Copy)]
 pub enum Line {
     Bad,
     Successor(Limits, usize),
@@ -26,14 +26,14 @@ pub enum Line {
 }
 
 // A path: how many components, and how many bytes.
-#[derive(Drop)]
+#[derive(Clone, Copy)]
 pub enum Slices {
     Bad,
     Read(usize, usize),
 }
 
 // A component: how many bytes.
-#[derive(Drop)]
+#[derive(Clone, Copy)]
 pub enum Piece {
     Bad,
     Read(usize),

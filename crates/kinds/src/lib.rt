@@ -1,5 +1,6 @@
 // Kinds as numbers: what a host passes and gets for an end or for the subspaces of an area. "Kinds: end 0 open, 1 closed; subspace 0 any, 1
 // one id." A number beside kind 0 is not read, and in an answer it is 0; any other kind is bad.
+#![tactic(auto)]
 
 ghost use Rattle.std.specs.Prelude.{◌≡◌};
 ghost use Rattle.willow.specs.Areas.{subspace_from, subspace_kind, subspace_value};
@@ -21,19 +22,19 @@ const ANY: u64 = 0;
 const ONE_ID: u64 = 1;
 
 // What a kind with a number stands for, or that the kind is bad, for which the caller answers 3.
-#[derive(Drop)]
+#[derive(Clone, Copy)]
 pub enum EndRead {
     Bad,
     Is(RangeEnd),
 }
 
-#[derive(Drop)]
+#[derive(Clone, Copy)]
 pub enum RangeRead {
     Bad,
     Is(Range),
 }
 
-#[derive(Drop)]
+#[derive(Clone, Copy)]
 pub enum SubspaceRead {
     Bad,
     Is(AreaSubspace),

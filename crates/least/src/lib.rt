@@ -1,6 +1,7 @@
 // The least paths above a lent one (`successor`, `greater_but_not_prefixed` and `singleton_range` of path/mod.rs), written packed
 // to the front of a lent buffer. One search serves them all. Refused are 1, 5, and 15 exactly if the buffer is too short for a
 // path that there is; none is given with any buffer and writes nothing.
+#![tactic(auto)]
 
 ghost use Rattle.std.specs.Prelude.{◌≡◌};
 ghost use Rattle.willow.specs.Answers.{counted_outcome, on_path, packed_outcome, written_buffer, written_length};

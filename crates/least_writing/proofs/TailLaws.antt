@@ -9,7 +9,7 @@ use lib.Dec.{ltb}
 use lib.ListN.{length, take, drop, get_or, length-append, length-take, length-drop, take-append-drop, get_or-eq_default}
 use lib.Seq.{take-append-le, take-append-add, drop-cons, length-take-le, take-nil}
 use borrow.Author.Tests.{ltb-true, ltb-false}
-use Rattle.willow.specs.Limits.{max_mCC, max_mPL}
+use Rattle.willow.specs.Limits.{max_mcc, max_mpl}
 use Rattle.willow.specs.Numbers.{Bytes, le}
 use Rattle.willow.specs.Packed.{accumulated, joined, pack, packed_count, length_before, unpack, widest}
 use Rattle.willow.specs.Paths.{Component, Path, path_length}
@@ -51,8 +51,8 @@ bytes_within (c ∷ cs) (suc i) m h = let k = bytes_within cs i m h in omega ari
 
 -- Where the parts stand, and that all sums are small.
 pub record Spot (b : List ℕ) (i m : ℕ) : Type 0 where
-  pub few : i ≤ max_mCC
-  pub short : length_before b i + m ≤ max_mPL
+  pub few : i ≤ max_mcc
+  pub short : length_before b i + m ≤ max_mpl
   pub within : i ≤ packed_count b
   pub inside : 8 + 8 * packed_count b + length_before b i + m ≤ length b
 

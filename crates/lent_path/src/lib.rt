@@ -1,5 +1,6 @@
 // The test of a lent path, a buffer in packed form with a count beside it, and of a component. Every call on paths begins with one of
 // these tests, and each lent buffer is tested once.
+#![tactic(auto)]
 
 ghost use Rattle.std.specs.Prelude.{◌≡◌};
 ghost use Rattle.willow.specs.Answers.{path_refusal, paths_refusal, tested_refusal};

@@ -1,5 +1,6 @@
 // The area map's sheet: its layout, and what its test means, are in specs/. The code that reads and writes it stands in the crates that
 // use this one, and finds every number by these names.
+#![tactic(auto)]
 
 // The numbers that stand before the heads, in bytes, and the bytes of a head.
 pub const MAP_FRONT: usize = 40;

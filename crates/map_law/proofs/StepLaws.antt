@@ -138,7 +138,7 @@ module _ (z : MapSizes) (rules : List Rule) (rest s : List ℕ) (p : ProperMap z
       by_room : (a : Parts) (q : Path) → parts_in x.area ≡ some a → lent z.limits x.area.buffer x.area.count ≡ some q
           → (length rules ≡ z.capacity) ⊎ (length rules < z.capacity) → Step z rules rest x (insert_answer s x) (insert_leaves s x)
       by_room a q e f (inl full) =
-          let t = table.no_room z rules x (parts_good x.area a e) (q, lends z words x passed a e q f) full in
+          let t = table.no_room_lem z rules x (parts_good x.area a e) (q, lends z words x passed a e q f) full in
           refused_as_lem x (some a) (some q) e f NoRoom (rw (eq-eqb (length rules) z.capacity full)) t
       by_room a q e f (inr free) = taken_as x passed a q e f free
 
@@ -151,5 +151,5 @@ module _ (z : MapSizes) (rules : List Rule) (rest s : List ℕ) (p : ProperMap z
 
       by_parts : (a : Option Parts) → parts_in x.area ≡ a → Step z rules rest x (insert_answer s x) (insert_leaves s x)
       by_parts none e =
-          refused_as_lem x none (lent z.limits x.area.buffer x.area.count) e refl BadKind refl (table.bad_kind z rules x (none_bad x.area e))
+          refused_as_lem x none (lent z.limits x.area.buffer x.area.count) e refl BadKind refl (table.bad_kind_lem z rules x (none_bad x.area e))
       by_parts (some a) e = by_path a (lent z.limits x.area.buffer x.area.count) e refl

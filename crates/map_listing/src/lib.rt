@@ -1,5 +1,6 @@
 // Listing the rules of an area map whose area intersects a given one (grouping/area.rs, `intersecting_values` and
 // `intersecting_pairs`). A listing gives positions, where area and value stand (`map_reading`). The sheet is tested: 2.
+#![tactic(auto)]
 
 pub mod inner;
 

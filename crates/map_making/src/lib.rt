@@ -1,4 +1,5 @@
 // An area map made fresh (document 01, "Sheets").
+#![tactic(auto)]
 
 pub mod inner;
 

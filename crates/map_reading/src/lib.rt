@@ -1,5 +1,6 @@
 // Reading an area map (document 01, "Sheets"): how many rules it has, and rule i by its area, its value and its path. Every call tests
 // the sheet: 2.
+#![tactic(auto)]
 
 pub mod inner;
 
@@ -15,7 +16,7 @@ use map_form::COUNT_AT;
 use willow::{Counted, Refusal};
 
 // A rule that there may not be: its area beside the buffer that `rule_path` gives, and its value.
-#[derive(Drop)]
+#[derive(Clone, Copy)]
 pub enum RuleRead {
     Refused(Refusal),
     Nothing,

@@ -1,4 +1,5 @@
 // The test of a lent area map (document 01, "Sheets"): one pass over its bytes.
+#![tactic(auto)]
 
 pub mod inner;
 

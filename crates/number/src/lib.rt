@@ -1,5 +1,6 @@
 // Bytes in lent memory: 8-byte little-endian numbers, copies, moves, the zero test and the zero fill.
 // These are the leaves under every call. They are not open to a caller: all but `is_zero` require that what they touch lies inside.
+#![tactic(auto)]
 
 ghost use Rattle.std.specs.Prelude.{◌&&◌, ◌≡◌, ◌+◌, ◌<◌, ◌≤◌, eqb, length, take, drop};
 ghost use Rattle.willow.specs.Numbers.{le, number_at};

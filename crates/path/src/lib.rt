@@ -1,4 +1,5 @@
 // Paths: every call on paths under one name (path/mod.rs).
+#![tactic(auto)]
 
 pub use builder::{Appended, Builder, Built, Started};
 pub use construction::{

@@ -1,5 +1,6 @@
 // Ends of ranges of paths (grouping/range.rs, `RangeEnd`): excluded paths, or open, which is above every path. An end's path is
 // lent beside it. Calls refuse 1, then 5; what stands beside an open end is not read.
+#![tactic(auto)]
 
 ghost use Rattle.std.specs.Prelude.{[], ◌∷◌, ◌++◌, ◌≡◌};
 ghost use Rattle.willow.specs.Answers.{asked_outcome, compared_outcome, path_in};

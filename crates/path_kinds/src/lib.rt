@@ -1,5 +1,6 @@
 // Ends and ranges of paths as a host passes them: the count of the start, the kind of the end and the count of the end. Refuses 1,
 // then 3. What stands beside kind 0 is not read.
+#![tactic(auto)]
 
 ghost use Rattle.std.specs.Prelude.{◌≡◌};
 ghost use Rattle.willow.specs.Refusals.{value};
@@ -9,19 +10,19 @@ ghost use Rattle.path_kinds.specs.PathKinds.{end_read, path_end_from, path_range
 use path_bounds::{PathEnd, PathRange};
 use willow::{Limits, Refusal};
 
-#[derive(Drop)]
+#[derive(Clone, Copy)]
 pub enum EndRead {
     Refused(Refusal),
     Is(PathEnd),
 }
 
-#[derive(Drop)]
+#[derive(Clone, Copy)]
 pub enum RangeRead {
     Refused(Refusal),
     Is(PathRange),
 }
 
-#[derive(Drop)]
+#[derive(Clone, Copy)]
 pub enum RangesRead {
     Refused(Refusal),
     Are(PathRange, PathRange),

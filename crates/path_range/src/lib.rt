@@ -1,6 +1,7 @@
 // Ranges of paths (grouping/range.rs, where a range is one of any type). A range's paths are lent beside it: `s` holds its start
 // and `e` its end. Calls refuse 1, then 5; what stands beside an open end is not read. Every start makes a range with every end;
 // where it is not below the end, the range includes nothing.
+#![tactic(auto)]
 
 ghost use Rattle.std.specs.Prelude.{[], ◌∷◌, ◌++◌, List, ◌≡◌, ℕ};
 ghost use Rattle.willow.specs.Answers.{asked_outcome, compared_outcome, counted_outcome, on_paths, path_in};

@@ -1,5 +1,6 @@
 // The intersection of two ranges of paths (grouping/range.rs): it has a start and an end of theirs, so the answer says whose.
 // Refuses 1, then 5; what stands beside an open end is not read.
+#![tactic(auto)]
 
 pub mod inner;
 
@@ -13,14 +14,14 @@ use path_bounds::{PathRange, inner as bounds};
 use willow::{Limits, Refusal, Tested};
 
 // Which of two lent starts stands.
-#[derive(Drop)]
+#[derive(Clone, Copy)]
 pub enum Side {
     First,
     Second,
 }
 
 // Which of two lent ends stands, or that the end is open.
-#[derive(Drop)]
+#[derive(Clone, Copy)]
 pub enum EndSide {
     First,
     Second,
@@ -28,7 +29,7 @@ pub enum EndSide {
 }
 
 // An intersection that there may not be: whose start and whose end it has.
-#[derive(Drop)]
+#[derive(Clone, Copy)]
 pub enum SidesMet {
     Refused(Refusal),
     Nothing,

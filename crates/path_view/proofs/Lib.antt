@@ -1,3 +1,1 @@
-pub mod Held
-pub mod TwoViews
 pub mod ViewLaws

@@ -1,6 +1,7 @@
 // A path as it is lent (document 01: "a path is read as a lent buffer with a count beside it"): a view holds the packed buffer and the
 // count. A prefix changes the count alone. Each function takes its views apart and leaves the work to the plain call on buffers and
 // counts, whose promise it passes on.
+#![tactic(auto)]
 
 ghost use Rattle.std.specs.Prelude.{◌≡◌};
 ghost use Rattle.willow.specs.Answers.{asked_outcome, compared_outcome, on_path, on_paths, path_refusal, tested_refusal};
@@ -11,7 +12,7 @@ ghost use Rattle.path_view.specs.Views.{prefix_count};
 use willow::{Asked, Compared, Limits, Tested};
 
 // A packed path and how many of its components are meant.
-#[derive(Drop)]
+#[derive(Clone, Copy)]
 pub struct View<'a> {
     pub bytes: &'a [u8],
     pub count: u64,

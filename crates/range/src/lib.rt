@@ -1,5 +1,6 @@
 // Ranges of numbers (grouping/range.rs, where a range is one of any type): ends, ranges, inclusion, intersection and order.
 // Every start makes a range with every end; where it is not below the end, the range includes nothing. Nothing is refused today.
+#![tactic(auto)]
 
 ghost use Rattle.std.specs.Prelude.{◌≡◌};
 ghost use Rattle.willow.specs.Answers.{asked_outcome, compared_outcome, counted_outcome};
@@ -13,14 +14,14 @@ pub use range_end::{compare_end, compare_ends, compare_value, end_equals, end_nu
 use willow::{Asked, Compared, Counted, Order, RangeEnd, Refusal};
 
 // A range includes the numbers that are at least its start and below its end.
-#[derive(Drop)]
+#[derive(Clone, Copy)]
 pub struct Range {
     pub start: u64,
     pub end: RangeEnd,
 }
 
 // A range that there may not be: an intersection, or a closed range that would include nothing.
-#[derive(Drop)]
+#[derive(Clone, Copy)]
 pub enum Met {
     Refused(Refusal),
     Nothing,

@@ -1,5 +1,6 @@
 // 3d ranges (grouping/range_3d.rs): three ranges, of subspaces, paths and times. A 3d range is a struct beside the lent buffers of
 // its paths: `s` holds the start and `e` the end. The questions on 3d ranges are the calls of crate `range_3d_questions`.
+#![tactic(auto)]
 
 ghost use Rattle.std.specs.Prelude.{List, ◌≡◌, ℕ};
 ghost use Rattle.willow.specs.Ranges3d.{full_range3d};
@@ -9,7 +10,7 @@ use path_bounds::PathRange;
 use range::Range;
 
 // A 3d range beside the buffers of its paths.
-#[derive(Drop)]
+#[derive(Clone, Copy)]
 pub struct Range3d {
     pub subspaces: Range,
     pub paths: PathRange,

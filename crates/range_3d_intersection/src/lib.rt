@@ -1,4 +1,5 @@
 // The intersection of 3d ranges, and areas as 3d ranges (grouping/range_3d.rs).
+#![tactic(auto)]
 
 pub mod inner;
 
@@ -18,7 +19,7 @@ use range_3d::Range3d;
 use willow::{Counted, Limits, Refusal, Tested};
 
 // An intersection: its ranges of numbers, and whose start and whose end its range of paths has.
-#[derive(Drop)]
+#[derive(Clone, Copy)]
 pub struct Sides3d {
     pub subspaces: Range,
     pub start: Side,
@@ -26,7 +27,7 @@ pub struct Sides3d {
     pub times: Range,
 }
 
-#[derive(Drop)]
+#[derive(Clone, Copy)]
 pub enum Range3dMet {
     Refused(Refusal),
     Nothing,
@@ -35,7 +36,7 @@ pub enum Range3dMet {
 
 // An area as a 3d range: its start is the area's path, its end is the path that was written, and the number says how many bytes
 // were written.
-#[derive(Drop)]
+#[derive(Clone, Copy)]
 pub enum Converted {
     Refused(Refusal),
     Is(Range3d, u64),

@@ -1,5 +1,6 @@
 // 3d ranges as a host passes and gets them: of the subspaces, of the paths and of the times a start, the kind of the end and an end,
 // where the paths are counts. Refuses 1, then 3. What stands beside kind 0 is not read, and in an answer it is 0.
+#![tactic(auto)]
 
 ghost use Rattle.std.specs.Prelude.{◌≡◌};
 ghost use Rattle.willow.specs.Ranges.{end_of};
@@ -14,13 +15,13 @@ use path_kinds::RangeRead as PathsRead;
 use range_3d::Range3d;
 use willow::{Limits, RangeEnd, Refusal};
 
-#[derive(Drop)]
+#[derive(Clone, Copy)]
 pub enum Range3dRead {
     Refused(Refusal),
     Is(Range3d),
 }
 
-#[derive(Drop)]
+#[derive(Clone, Copy)]
 pub enum Ranges3dRead {
     Refused(Refusal),
     Are(Range3d, Range3d),

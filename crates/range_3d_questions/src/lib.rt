@@ -1,5 +1,6 @@
 // Questions on 3d ranges (grouping/range_3d.rs): what a 3d range includes, what could prune an entry of it, and the order of 3d
 // ranges. Calls refuse 1, then 5; what stands beside an open end is not read.
+#![tactic(auto)]
 
 ghost use Rattle.std.specs.Prelude.{◌≡◌};
 ghost use Rattle.willow.specs.Answers.{asked_outcome, compared_outcome};

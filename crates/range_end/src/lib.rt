@@ -1,5 +1,6 @@
 // Ends of ranges of numbers (grouping/range.rs, `RangeEnd`): excluded values, or open, which is above every value. Nothing is
 // refused today.
+#![tactic(auto)]
 
 pub mod inner;
 

@@ -1,5 +1,6 @@
 // Questions on one lent path (path/mod.rs). Every call takes limits, a buffer and a count as they come, refuses 1, then 5, and answers
 // a question on the path that was lent.
+#![tactic(auto)]
 
 ghost use Rattle.std.specs.Prelude.{◌≡◌};
 ghost use Rattle.willow.specs.Answers.{asked_outcome, counted_outcome, on_path};

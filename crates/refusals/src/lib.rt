@@ -1,5 +1,6 @@
 // Refusals in code: the numbers by which refusals and orders are given, and the tests of refusal 1, with its bounds. What they mean is in
 // `willow`, which has definitions and theorems and no code.
+#![tactic(auto)]
 
 ghost use Rattle.std.specs.Prelude.{◌≡◌};
 ghost use Rattle.willow.specs.Limits.{accepted_capacity, accepted_limits};

@@ -1,5 +1,6 @@
 // Questions on two lent paths (path/mod.rs): order, equality, prefix, relatedness, longest common prefix. Every call refuses 1,
 // then 5 for either path.
+#![tactic(auto)]
 
 ghost use Rattle.std.specs.Prelude.{◌≡◌};
 ghost use Rattle.willow.specs.Answers.{asked_outcome, compared_outcome, counted_outcome, on_paths};

@@ -23,4 +23,6 @@
 // calls that answer as it does: `n.p7` is there the number in piece 7, and `b1`, `b2` are the line's first and second buffer. Then add
 // cases and their answers in tools/.
 
+#![tactic(auto)]
+
 pub mod inner;

@@ -18,6 +18,7 @@ use host_range_3d_conversion::{ConvertedAnswer, wotskrale_range_3d_from_area};
 use host_range_3d_intersection::{Range3dAnswer, wotskrale_range_3d_intersection};
 use replay_cases::inner::forms::Case;
 use replay_cases::inner::{answers, forms};
+use std::io::Stdout;
 
 // The calls of this part, as NUMBER:NAME:FORM.
 pub(crate) fn read(line: &[u8], array: &mut [u8; 4096]) -> Case {
@@ -32,7 +33,7 @@ pub(crate) fn read(line: &[u8], array: &mut [u8; 4096]) -> Case {
     forms::read(line, table, array)
 }
 
-fn print_area(a: AreaAnswer) {
+fn print_area(to: &Stdout, a: AreaAnswer) {
     let x = [
         a.status,
         a.whose,
@@ -43,10 +44,10 @@ fn print_area(a: AreaAnswer) {
         a.end_kind,
         a.end,
     ];
-    answers::print_numbers(&x);
+    answers::print_numbers(to, &x);
 }
 
-fn print_interest(a: InterestAnswer) {
+fn print_interest(to: &Stdout, a: InterestAnswer) {
     let x = [
         a.status,
         a.whose,
@@ -59,10 +60,10 @@ fn print_interest(a: InterestAnswer) {
         a.max_count,
         a.max_size,
     ];
-    answers::print_numbers(&x);
+    answers::print_numbers(to, &x);
 }
 
-fn print_range(a: Range3dAnswer) {
+fn print_range(to: &Stdout, a: Range3dAnswer) {
     let x = [
         a.status,
         a.subspace_start,
@@ -75,10 +76,10 @@ fn print_range(a: Range3dAnswer) {
         a.time_end_kind,
         a.time_end,
     ];
-    answers::print_numbers(&x);
+    answers::print_numbers(to, &x);
 }
 
-fn print_converted(a: ConvertedAnswer, out: &[u8]) {
+fn print_converted(to: &Stdout, a: ConvertedAnswer, out: &[u8]) {
     let x = [
         a.status,
         a.subspace_start,
@@ -92,7 +93,7 @@ fn print_converted(a: ConvertedAnswer, out: &[u8]) {
         a.time_end_kind,
         a.time_end,
     ];
-    answers::print_with(&x, out);
+    answers::print_with(to, &x, out);
 }
 
 fn area_intersection(n: Case, b1: &[u8], b2: &[u8]) -> AreaAnswer {
@@ -214,37 +215,37 @@ fn ask_ranges(n: Case, b1: &[u8], b2: &[u8], b3: &[u8], b4: &[u8]) -> Answer {
     }
 }
 
-fn convert(n: Case, b1: &[u8], out: &mut [u8]) {
+fn convert(to: &Stdout, n: Case, b1: &[u8], out: &mut [u8]) {
     let a = range_3d_from_area(n, b1, out);
-    print_converted(a, out);
+    print_converted(to, a, out);
 }
 
-fn replay_converted(n: Case, b1: &[u8]) {
+fn replay_converted(to: &Stdout, n: Case, b1: &[u8]) {
     let mut out = [238u8; 256];
     let m = forms::room(n, &out);
-    convert(n, b1, &mut out[0..m]);
+    convert(to, n, b1, &mut out[0..m]);
 }
 
 // The calls that answer with an area or a range.
-fn replay_area(n: Case, b1: &[u8], b2: &[u8], b3: &[u8], b4: &[u8]) {
+fn replay_area(to: &Stdout, n: Case, b1: &[u8], b2: &[u8], b3: &[u8], b4: &[u8]) {
     let call = n.call;
     match call {
-        1 => print_area(area_intersection(n, b1, b2)),
-        2 => print_interest(area_of_interest_intersection(n, b1, b2)),
-        3 => print_range(range_3d_intersection(n, b1, b2, b3, b4)),
-        _ => replay_converted(n, b1),
+        1 => print_area(to, area_intersection(n, b1, b2)),
+        2 => print_interest(to, area_of_interest_intersection(n, b1, b2)),
+        3 => print_range(to, range_3d_intersection(n, b1, b2, b3, b4)),
+        _ => replay_converted(to, n, b1),
     }
 }
 
 // Makes the call, and prints its answer.
-pub(crate) fn replay(n: Case, b1: &[u8], b2: &[u8], b3: &[u8], b4: &[u8]) {
+pub(crate) fn replay(to: &Stdout, n: Case, b1: &[u8], b2: &[u8], b3: &[u8], b4: &[u8]) {
     if n.call < 10 {
-        replay_area(n, b1, b2, b3, b4);
+        replay_area(to, n, b1, b2, b3, b4);
         return;
     }
     if n.call < 20 {
-        answers::print_answer(ask_areas(n, b1, b2));
+        answers::print_answer(to, ask_areas(n, b1, b2));
         return;
     }
-    answers::print_answer(ask_ranges(n, b1, b2, b3, b4));
+    answers::print_answer(to, ask_ranges(n, b1, b2, b3, b4));
 }

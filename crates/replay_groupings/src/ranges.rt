@@ -19,6 +19,7 @@ use host_range::{
 };
 use replay_cases::inner::forms::Case;
 use replay_cases::inner::{answers, forms};
+use std::io::Stdout;
 
 // The calls of this part, as NUMBER:NAME:FORM.
 pub(crate) fn read(line: &[u8], array: &mut [u8; 4096]) -> Case {
@@ -33,14 +34,14 @@ pub(crate) fn read(line: &[u8], array: &mut [u8; 4096]) -> Case {
     forms::read(line, table, array)
 }
 
-fn print_range(a: RangeAnswer) {
+fn print_range(to: &Stdout, a: RangeAnswer) {
     let x = [a.status, a.start, a.end_kind, a.end];
-    answers::print_numbers(&x);
+    answers::print_numbers(to, &x);
 }
 
-fn print_sides(a: SidesAnswer) {
+fn print_sides(to: &Stdout, a: SidesAnswer) {
     let x = [a.status, a.start, a.end_kind, a.end];
-    answers::print_numbers(&x);
+    answers::print_numbers(to, &x);
 }
 
 fn path_range_includes_range(n: Case, b1: &[u8], b2: &[u8], b3: &[u8], b4: &[u8]) -> Answer {
@@ -143,28 +144,31 @@ fn ask_entries(n: Case, b1: &[u8], b2: &[u8], b3: &[u8], b4: &[u8]) -> Answer {
 }
 
 // The calls that answer with a range.
-fn replay_range(n: Case, b1: &[u8], b2: &[u8], b3: &[u8], b4: &[u8]) {
+fn replay_range(to: &Stdout, n: Case, b1: &[u8], b2: &[u8], b3: &[u8], b4: &[u8]) {
     let call = n.call;
     match call {
-        1 => print_range(wotskrale_range_new_closed(n.p1, n.p2)),
-        2 => print_range(wotskrale_range_intersection(n.p1, n.p2, n.p3, n.p4, n.p5, n.p6)),
-        _ => print_sides(path_range_intersection(n, b1, b2, b3, b4)),
+        1 => print_range(to, wotskrale_range_new_closed(n.p1, n.p2)),
+        2 => print_range(
+            to,
+            wotskrale_range_intersection(n.p1, n.p2, n.p3, n.p4, n.p5, n.p6),
+        ),
+        _ => print_sides(to, path_range_intersection(n, b1, b2, b3, b4)),
     }
 }
 
 // Makes the call, and prints its answer.
-pub(crate) fn replay(n: Case, b1: &[u8], b2: &[u8], b3: &[u8], b4: &[u8]) {
+pub(crate) fn replay(to: &Stdout, n: Case, b1: &[u8], b2: &[u8], b3: &[u8], b4: &[u8]) {
     if n.call < 10 {
-        replay_range(n, b1, b2, b3, b4);
+        replay_range(to, n, b1, b2, b3, b4);
         return;
     }
     if n.call < 20 {
-        answers::print_answer(ask_numbers(n));
+        answers::print_answer(to, ask_numbers(n));
         return;
     }
     if n.call < 30 {
-        answers::print_answer(ask_paths(n, b1, b2, b3, b4));
+        answers::print_answer(to, ask_paths(n, b1, b2, b3, b4));
         return;
     }
-    answers::print_answer(ask_entries(n, b1, b2, b3, b4));
+    answers::print_answer(to, ask_entries(n, b1, b2, b3, b4));
 }

@@ -22,6 +22,7 @@ use host_greatest::wotskrale_path_new_max;
 use replay_cases::inner::forms::Case;
 use replay_cases::inner::kept::Kept;
 use replay_cases::inner::{answers, forms, kept};
+use std::io::Stdout;
 
 // The calls of this part, as NUMBER:NAME:FORM.
 pub(crate) fn read(line: &[u8], array: &mut [u8; 4096]) -> Case {
@@ -74,52 +75,52 @@ fn step(n: Case, b1: &[u8], out: &mut [u8], s: Builder) -> BuilderAnswer {
     }
 }
 
-fn print_step(n: Case, b1: &[u8], out: &mut [u8], s: Builder) -> Builder {
+fn print_step(to: &Stdout, n: Case, b1: &[u8], out: &mut [u8], s: Builder) -> Builder {
     let a = step(n, b1, out, s);
     let t = a.state;
     let x = [a.status, t.mcl, t.mcc, t.mpl, t.length, t.count, t.appended];
-    answers::print_with(&x, out);
+    answers::print_with(to, &x, out);
     t
 }
 
-fn print_build(out: &[u8], s: Builder) -> Builder {
+fn print_build(to: &Stdout, out: &[u8], s: Builder) -> Builder {
     let a = wotskrale_builder_build(s, out);
     let t = a.state;
     let x = [
         a.status, a.value, t.mcl, t.mcc, t.mpl, t.length, t.count, t.appended,
     ];
-    answers::print_with(&x, out);
+    answers::print_with(to, &x, out);
     t
 }
 
-fn print_max(n: Case, out: &mut [u8]) {
+fn print_max(to: &Stdout, n: Case, out: &mut [u8]) {
     let a = wotskrale_path_new_max(n.p1, n.p2, n.p3, out);
-    answers::print_written(a, out);
+    answers::print_written(to, a, out);
 }
 
 // Makes the call with the buffer that is kept, and prints its answer.
-fn call_with(n: Case, b1: &[u8], out: &mut [u8], k: Kept) -> Kept {
+fn call_with(to: &Stdout, n: Case, b1: &[u8], out: &mut [u8], k: Kept) -> Kept {
     let call = n.call;
     match call {
-        13 => with_state(k, print_build(out, kept_state(k))),
+        13 => with_state(k, print_build(to, out, kept_state(k))),
         14 => {
-            print_max(n, out);
+            print_max(to, n, out);
             k
         }
-        _ => with_state(k, print_step(n, b1, out, kept_state(k))),
+        _ => with_state(k, print_step(to, n, b1, out, kept_state(k))),
     }
 }
 
 // Carries a line out: what is kept then.
-pub(crate) fn replay(n: Case, b1: &[u8], space: &mut [u8], k: Kept) -> Kept {
+pub(crate) fn replay(to: &Stdout, n: Case, b1: &[u8], space: &mut [u8], k: Kept) -> Kept {
     let call = n.call;
     match call {
-        1 => kept::keep_room(n.p1, space, 16384, k),
-        2 => kept::keep_bytes(b1, space, 0, 16384, k),
+        1 => kept::keep_room(to, n.p1, space, 16384, k),
+        2 => kept::keep_bytes(to, b1, space, 0, 16384, k),
         3 => with_state(k, given_state(n)),
         _ => {
             let m = kept::kept_length(k, space);
-            call_with(n, b1, &mut space[0..m], k)
+            call_with(to, n, b1, &mut space[0..m], k)
         }
     }
 }

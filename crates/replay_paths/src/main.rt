@@ -2,15 +2,19 @@
 // names an export without `wotskrale_`, and without `path_` or `builder_` behind that. What must be printed is computed by
 // tools/replay.py, apart from the core.
 
+#![tactic(auto)]
+
 mod building;
 mod making;
 mod parts;
-mod reading;
+mod questions;
 
 use replay_cases::inner::{input, kept};
 
 // The count of turns is there so that the loop is seen to end: no input uses it up.
-fn main() {
+fn main(rt: HostRuntime) {
+    let mut from = rt.stdin();
+    let to = rt.stdout();
     let mut chunk = [0u8; 65536];
     let mut line = [0u8; 4096];
     let mut space = [238u8; 16384];
@@ -18,9 +22,9 @@ fn main() {
     let mut k = kept::nothing(kept::NO_PART);
     let mut turns = u64::MAX;
     while 0 < turns {
-        i = input::next(&mut chunk, &mut line, i);
+        i = input::next(&mut from, &to, &mut chunk, &mut line, i);
         if i.whole {
-            k = parts::replay(input::text(&line, i), &mut space, k);
+            k = parts::replay(&to, input::text(&line, i), &mut space, k);
         }
         if i.ended {
             break;

@@ -11,6 +11,7 @@ use host_least::{
 };
 use replay_cases::inner::forms::Case;
 use replay_cases::inner::{answers, forms};
+use std::io::Stdout;
 
 // The calls of this part, as NUMBER:NAME:FORM.
 pub(crate) fn read(line: &[u8], array: &mut [u8; 4096]) -> Case {
@@ -36,14 +37,14 @@ fn make(n: Case, b1: &[u8], b2: &[u8], b3: &[u8], out: &mut [u8]) -> Answer {
     }
 }
 
-fn print_made(n: Case, b1: &[u8], b2: &[u8], b3: &[u8], out: &mut [u8]) {
+fn print_made(to: &Stdout, n: Case, b1: &[u8], b2: &[u8], b3: &[u8], out: &mut [u8]) {
     let a = make(n, b1, b2, b3, out);
-    answers::print_written(a, out);
+    answers::print_written(to, a, out);
 }
 
 // Makes the call, and prints its answer.
-pub(crate) fn replay(n: Case, b1: &[u8], b2: &[u8], b3: &[u8]) {
+pub(crate) fn replay(to: &Stdout, n: Case, b1: &[u8], b2: &[u8], b3: &[u8]) {
     let mut out = [238u8; 256];
     let m = forms::room(n, &out);
-    print_made(n, b1, b2, b3, &mut out[0..m]);
+    print_made(to, n, b1, b2, b3, &mut out[0..m]);
 }

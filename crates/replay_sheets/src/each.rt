@@ -5,6 +5,7 @@ use host_map::wotskrale_map_test;
 use host_store::wotskrale_store_test;
 use replay_cases::inner::forms::Case;
 use replay_cases::inner::{answers, kept};
+use std::io::Stdout;
 
 fn test(maps: bool, sheet: &[u8]) -> u64 {
     if maps {
@@ -13,21 +14,21 @@ fn test(maps: bool, sheet: &[u8]) -> u64 {
     wotskrale_store_test(sheet)
 }
 
-fn print_tests(maps: bool, sheet: &mut [u8], v: u8) {
+fn print_tests(to: &Stdout, maps: bool, sheet: &mut [u8], v: u8) {
     let mut i = 0;
     while i < sheet.len() {
         kept::change(sheet, i, v);
-        answers::print_digit(test(maps, sheet));
+        answers::print_digit(to, test(maps, sheet));
         kept::change(sheet, i, v);
         i += 1;
     }
-    answers::print_end();
+    answers::print_end(to);
 }
 
-pub(crate) fn replay(maps: bool, n: Case, sheet: &mut [u8]) {
+pub(crate) fn replay(to: &Stdout, maps: bool, n: Case, sheet: &mut [u8]) {
     if 255 < n.p1 {
-        answers::print_unreadable();
+        answers::print_unreadable(to);
         return;
     }
-    print_tests(maps, sheet, n.p1 as u8);
+    print_tests(to, maps, sheet, n.p1 as u8);
 }

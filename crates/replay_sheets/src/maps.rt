@@ -11,6 +11,7 @@ use host_map_reading::{
 };
 use replay_cases::inner::forms::Case;
 use replay_cases::inner::{answers, forms};
+use std::io::Stdout;
 
 // The calls of this part, as NUMBER:NAME:FORM.
 pub(crate) fn read(line: &[u8], array: &mut [u8; 4096]) -> Case {
@@ -21,17 +22,17 @@ pub(crate) fn read(line: &[u8], array: &mut [u8; 4096]) -> Case {
     forms::read(line, table, array)
 }
 
-fn fresh(n: Case, sheet: &mut [u8]) {
+fn fresh(to: &Stdout, n: Case, sheet: &mut [u8]) {
     let a = wotskrale_map_fresh(n.p1, n.p2, n.p3, n.p4, sheet);
-    answers::print_written(a, sheet);
+    answers::print_written(to, a, sheet);
 }
 
-fn insert(n: Case, b1: &[u8], sheet: &mut [u8]) {
+fn insert(to: &Stdout, n: Case, b1: &[u8], sheet: &mut [u8]) {
     let a = wotskrale_map_insert(sheet, n.p1, n.p2, b1, n.p4, n.p5, n.p6, n.p7, n.p8);
-    answers::print_written(a, sheet);
+    answers::print_written(to, a, sheet);
 }
 
-fn print_rule(a: RuleAnswer) {
+fn print_rule(to: &Stdout, a: RuleAnswer) {
     let x = [
         a.status,
         a.subspace_kind,
@@ -42,7 +43,7 @@ fn print_rule(a: RuleAnswer) {
         a.end,
         a.value,
     ];
-    answers::print_numbers(&x);
+    answers::print_numbers(to, &x);
 }
 
 fn write(n: Case, b1: &[u8], sheet: &[u8], out: &mut [u8]) -> Answer {
@@ -52,34 +53,34 @@ fn write(n: Case, b1: &[u8], sheet: &[u8], out: &mut [u8]) -> Answer {
     wotskrale_map_intersecting(sheet, n.p1, n.p2, b1, n.p4, n.p5, n.p6, n.p7, out)
 }
 
-fn print_written(n: Case, b1: &[u8], sheet: &[u8], out: &mut [u8]) {
+fn print_written(to: &Stdout, n: Case, b1: &[u8], sheet: &[u8], out: &mut [u8]) {
     let a = write(n, b1, sheet, out);
-    answers::print_written(a, out);
+    answers::print_written(to, a, out);
 }
 
-fn replay_writing(n: Case, b1: &[u8], sheet: &[u8]) {
+fn replay_writing(to: &Stdout, n: Case, b1: &[u8], sheet: &[u8]) {
     let mut out = [238u8; 256];
     let m = forms::room(n, &out);
-    print_written(n, b1, sheet, &mut out[0..m]);
+    print_written(to, n, b1, sheet, &mut out[0..m]);
 }
 
-fn replay_reading(n: Case, b1: &[u8], sheet: &[u8]) {
+fn replay_reading(to: &Stdout, n: Case, b1: &[u8], sheet: &[u8]) {
     let call = n.call;
     match call {
-        20 => answers::print_status(wotskrale_map_test(sheet)),
-        21 => answers::print_answer(wotskrale_map_count(sheet)),
-        22 => print_rule(wotskrale_map_rule(sheet, n.p1)),
-        _ => replay_writing(n, b1, sheet),
+        20 => answers::print_status(to, wotskrale_map_test(sheet)),
+        21 => answers::print_answer(to, wotskrale_map_count(sheet)),
+        22 => print_rule(to, wotskrale_map_rule(sheet, n.p1)),
+        _ => replay_writing(to, n, b1, sheet),
     }
 }
 
 // Makes the call with the map that is kept, and prints its answer.
-pub(crate) fn replay(n: Case, b1: &[u8], sheet: &mut [u8]) {
+pub(crate) fn replay(to: &Stdout, n: Case, b1: &[u8], sheet: &mut [u8]) {
     let call = n.call;
     match call {
-        10 => fresh(n, sheet),
-        11 => insert(n, b1, sheet),
-        12 => each::replay(true, n, sheet),
-        _ => replay_reading(n, b1, sheet),
+        10 => fresh(to, n, sheet),
+        11 => insert(to, n, b1, sheet),
+        12 => each::replay(to, true, n, sheet),
+        _ => replay_reading(to, n, b1, sheet),
     }
 }

@@ -9,6 +9,7 @@ use host_store_reading::{
 };
 use replay_cases::inner::forms::Case;
 use replay_cases::inner::{answers, forms};
+use std::io::Stdout;
 
 // The calls of this part, as NUMBER:NAME:FORM.
 pub(crate) fn read(line: &[u8], array: &mut [u8; 4096]) -> Case {
@@ -18,27 +19,27 @@ pub(crate) fn read(line: &[u8], array: &mut [u8; 4096]) -> Case {
     forms::read(line, table, array)
 }
 
-fn fresh(n: Case, sheet: &mut [u8]) {
+fn fresh(to: &Stdout, n: Case, sheet: &mut [u8]) {
     let a = wotskrale_store_fresh(n.p1, n.p2, n.p3, n.p4, n.p5, sheet);
-    answers::print_written(a, sheet);
+    answers::print_written(to, a, sheet);
 }
 
-fn print_offered(a: OfferAnswer, sheet: &[u8]) {
+fn print_offered(to: &Stdout, a: OfferAnswer, sheet: &[u8]) {
     let x = [a.status, a.answer, a.pruned];
-    answers::print_with(&x, sheet);
+    answers::print_with(to, &x, sheet);
 }
 
-fn offer_with(n: Case, b1: &[u8], d2: &[u8; 32], sheet: &mut [u8]) {
+fn offer_with(to: &Stdout, n: Case, b1: &[u8], d2: &[u8; 32], sheet: &mut [u8]) {
     let a = wotskrale_store_offer(sheet, n.p1, n.p2, b1, n.p4, n.p5, n.p6, d2);
-    print_offered(a, sheet);
+    print_offered(to, a, sheet);
 }
 
-fn offer(n: Case, b1: &[u8], b2: &[u8], sheet: &mut [u8]) {
+fn offer(to: &Stdout, n: Case, b1: &[u8], b2: &[u8], sheet: &mut [u8]) {
     let d2 = forms::digest(b2);
-    offer_with(n, b1, &d2, sheet);
+    offer_with(to, n, b1, &d2, sheet);
 }
 
-fn print_store(a: StoreAnswer) {
+fn print_store(to: &Stdout, a: StoreAnswer) {
     let x = [
         a.status,
         a.mcl,
@@ -50,43 +51,43 @@ fn print_store(a: StoreAnswer) {
         a.held,
         a.let_go,
     ];
-    answers::print_numbers(&x);
+    answers::print_numbers(to, &x);
 }
 
-fn print_entry(a: EntryAnswer) {
+fn print_entry(to: &Stdout, a: EntryAnswer) {
     let x = [a.status, a.subspace, a.timestamp, a.payload_length, a.count];
     let digest = a.digest;
-    answers::print_with(&x, &digest);
+    answers::print_with(to, &x, &digest);
 }
 
-fn print_path(n: Case, sheet: &[u8], out: &mut [u8]) {
+fn print_path(to: &Stdout, n: Case, sheet: &[u8], out: &mut [u8]) {
     let a = wotskrale_store_entry_path(sheet, n.p1, out);
-    answers::print_written(a, out);
+    answers::print_written(to, a, out);
 }
 
-fn replay_writing(n: Case, sheet: &[u8]) {
+fn replay_writing(to: &Stdout, n: Case, sheet: &[u8]) {
     let mut out = [238u8; 256];
     let m = forms::room(n, &out);
-    print_path(n, sheet, &mut out[0..m]);
+    print_path(to, n, sheet, &mut out[0..m]);
 }
 
-fn replay_reading(n: Case, sheet: &[u8]) {
+fn replay_reading(to: &Stdout, n: Case, sheet: &[u8]) {
     let call = n.call;
     match call {
-        20 => answers::print_status(wotskrale_store_test(sheet)),
-        21 => print_store(wotskrale_store_numbers(sheet)),
-        22 => print_entry(wotskrale_store_entry(sheet, n.p1)),
-        _ => replay_writing(n, sheet),
+        20 => answers::print_status(to, wotskrale_store_test(sheet)),
+        21 => print_store(to, wotskrale_store_numbers(sheet)),
+        22 => print_entry(to, wotskrale_store_entry(sheet, n.p1)),
+        _ => replay_writing(to, n, sheet),
     }
 }
 
 // Makes the call with the store that is kept, and prints its answer.
-pub(crate) fn replay(n: Case, b1: &[u8], b2: &[u8], sheet: &mut [u8]) {
+pub(crate) fn replay(to: &Stdout, n: Case, b1: &[u8], b2: &[u8], sheet: &mut [u8]) {
     let call = n.call;
     match call {
-        10 => fresh(n, sheet),
-        11 => offer(n, b1, b2, sheet),
-        12 => each::replay(false, n, sheet),
-        _ => replay_reading(n, sheet),
+        10 => fresh(to, n, sheet),
+        11 => offer(to, n, b1, b2, sheet),
+        12 => each::replay(to, false, n, sheet),
+        _ => replay_reading(to, n, sheet),
     }
 }

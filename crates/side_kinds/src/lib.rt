@@ -1,5 +1,6 @@
 // Whose start and whose end an intersection of ranges of paths has, as a host gets them: 0 the first's, 1 the second's, and beside an
 // end its kind.
+#![tactic(auto)]
 
 ghost use Rattle.std.specs.Prelude.{◌≡◌};
 ghost use Rattle.side_kinds.specs.SideKinds.{end_side_kind, end_side_number, side_number};

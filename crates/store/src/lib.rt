@@ -1,6 +1,7 @@
 // The store (document 01, "Sheets"): entries filed in a sheet in lent memory. The store's limits, capacity and namespace stand in the
 // sheet itself. What every list of offers to a fresh store leaves is `Demand3OnBytes` (crate `store_law`); a fresh store is made by
 // crate `store_making`.
+#![tactic(auto)]
 
 ghost use Rattle.std.specs.Prelude.{◌≡◌};
 ghost use Rattle.willow.specs.Store.{offer};

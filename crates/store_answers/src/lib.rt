@@ -1,11 +1,12 @@
 // What an offer is answered, and which answer it is by what it met among the held entries.
+#![tactic(auto)]
 
 pub mod inner;
 
 use willow::Refusal;
 
 // What an offer is answered; taken comes with how many entries it pruned.
-#[derive(Drop)]
+#[derive(Clone, Copy)]
 pub enum Offered {
     Refused(Refusal),
     Outdated,

@@ -1,5 +1,6 @@
 // The store's sheet: its layout, and what its test means, are in specs/. The code that reads and writes it stands in the crates that
 // use this one, and finds every number by these names.
+#![tactic(auto)]
 
 use refusals::MAX_MCC;
 

@@ -1,4 +1,5 @@
 // A store made fresh (document 01, "Sheets").
+#![tactic(auto)]
 
 pub mod inner;
 

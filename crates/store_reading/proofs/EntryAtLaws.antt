@@ -44,7 +44,7 @@ module _ (s : List ℕ) (stored : is_store s ≡ true) (b : Bytes s) where
   unfolding state_in
   numbers_are x l c n m h g =
       let k = n ∙ sym entries_many in
-      λ t. record { limits = l t; capacity = c t; count = k t; namespace = m t; held = h t; let_go_lem = g t }
+      λ t. record { limits = l t; capacity = c t; count = k t; namespace = m t; held = h t; let_go = g t }
 
   -- ITS ROWS may be read by the numbers that were read.
   pub rows_readable : (L : Limits) (N n : ℕ) → L ≡ (sizes_in s).limits → N ≡ (sizes_in s).capacity → n ≡ count_in s → RowsReadable L N n s

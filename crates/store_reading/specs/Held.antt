@@ -21,7 +21,7 @@ numbers_of z t = record {
   count = length t.entries;
   namespace = z.namespace;
   held = t.held;
-  let_go_lem = t.let_go;
+  let_go = t.let_go;
 }
 
 -- What the cases of the code's answer mean.

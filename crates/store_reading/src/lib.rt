@@ -1,5 +1,6 @@
 // Reading a store (document 01, "Sheets"): the numbers before the heads, and entry i by its head and its path. Every call tests the
 // sheet: 2. A store's entries stand by subspace and then path, and are counted from 0.
+#![tactic(auto)]
 
 pub mod inner;
 
@@ -15,7 +16,7 @@ use store_form::COUNT_AT;
 use willow::{Counted, Limits, Refusal};
 
 // The numbers before the heads: what the store was made with, how many entries it holds, and the bytes held and let go.
-#[derive(Drop)]
+#[derive(Clone, Copy)]
 pub struct StoreNumbers {
     pub limits: Limits,
     pub capacity: u64,
@@ -25,14 +26,14 @@ pub struct StoreNumbers {
     pub let_go: u64,
 }
 
-#[derive(Drop)]
+#[derive(Clone, Copy)]
 pub enum NumbersRead {
     Refused(Refusal),
     Is(StoreNumbers),
 }
 
 // An entry that there may not be: how many components its path has, and its head, which is zeros unless there is one.
-#[derive(Drop)]
+#[derive(Clone, Copy)]
 pub struct EntryRead {
     pub count: Counted,
     pub head: Head,

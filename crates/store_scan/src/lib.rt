@@ -1,10 +1,11 @@
 // What an offer meets among the held entries, in one pass. It is not open to a caller.
+#![tactic(auto)]
 
 pub mod inner;
 
 // Whether a held entry prunes the offer, whether one is the offer; how many the offer prunes, and their payload bytes; and how many of
 // the others stand below it.
-#[derive(Drop)]
+#[derive(Clone, Copy)]
 pub struct Scan {
     pub outdated: bool,
     pub repeat: bool,

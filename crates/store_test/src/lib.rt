@@ -1,5 +1,6 @@
 // The test of a lent store (document 01, "Sheets"): passes over its rows, each linear in their number, the comparisons of paths among
 // them.
+#![tactic(auto)]
 
 pub mod inner;
 

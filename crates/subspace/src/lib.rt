@@ -1,4 +1,5 @@
 // The subspaces of an area (grouping/area.rs, `AreaSubspace`): all of them, or one id. Nothing is refused today.
+#![tactic(auto)]
 
 pub mod inner;
 
@@ -12,7 +13,7 @@ use range_end::inner::answer;
 use willow::{AreaSubspace, Asked, Compared, Refusal};
 
 // An intersection of subspaces that there may not be.
-#[derive(Drop)]
+#[derive(Clone, Copy)]
 pub enum Met {
     Refused(Refusal),
     Nothing,

@@ -3,14 +3,14 @@ use Rattle.std.specs.Prelude.{ℕ, ◌≤◌, ◌^◌, ◌-◌, ◌≡◌, ◌�
 use Rattle.willow.specs.declared.Limits.{Limits}
 
 -- Refusal 1: "MCL over 1,024, MCC over 1,024, MPL over 4,096, or sheet capacity N over 4,096".
-abbrev pub max_mCL : ℕ
-max_mCL = 1024
+abbrev pub max_mcl : ℕ
+max_mcl = 1024
 
-abbrev pub max_mCC : ℕ
-max_mCC = 1024
+abbrev pub max_mcc : ℕ
+max_mcc = 1024
 
-abbrev pub max_mPL : ℕ
-max_mPL = 4096
+abbrev pub max_mpl : ℕ
+max_mpl = 4096
 
 abbrev pub max_capacity : ℕ
 max_capacity = 4096
@@ -21,13 +21,13 @@ max_word = 2 ^ 64 - 1
 
 -- WHAT IS MEANT by accepted limits.
 pub record Accepted (L : Limits) : Type 0 where
-  pub mcl_within : L.mcl ≤ max_mCL
-  pub mcc_within : L.mcc ≤ max_mCC
-  pub mpl_within : L.mpl ≤ max_mPL
+  pub mcl_within : L.mcl ≤ max_mcl
+  pub mcc_within : L.mcc ≤ max_mcc
+  pub mpl_within : L.mpl ≤ max_mpl
 
 -- The tests of refusal 1.
 unfoldable pub accepted_limits : Limits → Bool
-accepted_limits L = leb L.mcl max_mCL && (leb L.mcc max_mCC && leb L.mpl max_mPL)
+accepted_limits L = leb L.mcl max_mcl && (leb L.mcc max_mcc && leb L.mpl max_mpl)
 
 unfoldable pub accepted_capacity : ℕ → Bool
 accepted_capacity N = leb N max_capacity

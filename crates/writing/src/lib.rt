@@ -1,5 +1,6 @@
 // Components and prefixes of lent paths, written to the front of a lent buffer. Every call refuses 1, then 5, and 15 exactly if
 // the buffer is too short for an answer that there is; what stands behind the answer stays.
+#![tactic(auto)]
 
 ghost use Rattle.std.specs.Prelude.{◌≡◌};
 ghost use Rattle.packed.specs.Readable.{Readable};

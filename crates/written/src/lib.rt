@@ -1,4 +1,5 @@
 // Bytes answered in a lent buffer: every call that answers with bytes that stand somewhere already writes them by this one function.
+#![tactic(auto)]
 
 ghost use Rattle.std.specs.Prelude.{◌≡◌};
 ghost use Rattle.willow.specs.Answers.{counted_outcome, written_buffer, written_length};

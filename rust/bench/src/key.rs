@@ -35,13 +35,13 @@ fn timed(program: &Path, input: &[u8]) -> Option<f64> {
 impl Bench {
     /// Lines per second over an input of 400,000 lines.
     pub fn key(&self) {
-        let program = Path::new(env!("CARGO_MANIFEST_DIR")).join("../../target/bin/key");
+        let program = Path::new(env!("CARGO_MANIFEST_DIR")).join("../../crates/key/out/key");
         let count = 400_000;
         let input = lines(count);
         let times = (0..self.samples.clamp(1, 9)).map(|_| timed(&program, &input));
         let Some(mut times) = times.collect::<Option<Vec<f64>>>() else {
             return eprintln!(
-                "{} is not there: `rt check key` builds it",
+                "{} is not there: `rt run` in crates/key builds it",
                 program.display()
             );
         };

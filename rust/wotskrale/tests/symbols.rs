@@ -1,5 +1,6 @@
 //! The declarations in `plain` against the archives and against the sources of the exported calls: every symbol, every
-//! parameter, every result, and every field of what is passed and returned by value.
+//! parameter, every result, and every field of what is passed and returned by value. The crate `host_X_c` exports the calls of
+//! the archive `host_X`, and what they return by value is declared in the crate `host_X`.
 
 use std::collections::{BTreeMap, BTreeSet};
 use std::fs;
@@ -12,7 +13,7 @@ type Signature = (Vec<String>, String);
 /// Fields by name and type, in order.
 type Fields = Vec<(String, String)>;
 
-/// The names of the archives, which are those of the crates; not those of the store's where its calls are not declared.
+/// The names of the archives; not those of the store's where its calls are not declared.
 fn names() -> impl Iterator<Item = &'static str> {
     let names = env!("WOTSKRALE_NAMES").split(' ');
     names.filter(|name| cfg!(feature = "store") || !name.starts_with("host_store"))
@@ -73,7 +74,8 @@ fn source(name: &str) -> String {
 /// For each exported function of a source: its parameters' types and its result, with no space.
 fn signatures(text: &str) -> BTreeMap<String, Signature> {
     let mut found = BTreeMap::new();
-    for piece in text.split("#[no_mangle]\npub extern \"C\" fn ").skip(1) {
+    let head = "#[unsafe(no_mangle)]\npub extern \"C\" fn ";
+    for piece in text.split(head).skip(1) {
         let (name, rest) = piece.split_once('(').expect("a parameter list");
         let (parameters, rest) = rest.split_once(") ->").expect("a result");
         let result = rest.trim_start().chars();
@@ -102,7 +104,7 @@ fn passed(rattle: &str) -> Vec<String> {
 fn each_declaration_has_the_parameters_of_the_exported_function() {
     let mut sources = BTreeMap::new();
     for name in names() {
-        sources.append(&mut signatures(&source(name)));
+        sources.append(&mut signatures(&source(&format!("{name}_c"))));
     }
     assert_eq!(declared(), sources);
 }

@@ -9,7 +9,7 @@ use replay_text::inner::{buffers, pieces};
 // `ok` is false where a line is no case. `p7` is the number in piece 7, and 0 where that is none. The buffers stand one behind the
 // other: `e1` is the end of the first, and so on; `buffers` is how many there are, and `free` the end of the last. `room` is the
 // length of the output buffer.
-#[derive(Drop)]
+#[derive(Clone, Copy)]
 pub struct Case {
     pub ok: bool,
     pub call: u64,

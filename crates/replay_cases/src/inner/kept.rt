@@ -14,9 +14,10 @@ ghost use Rattle.std.specs.Prelude.{◌≤◌, length};
 use crate::inner::answers;
 use crate::inner::forms::Case;
 use replay_text::inner::pieces;
+use std::io::Stdout;
 
 // The part that is replayed; how long the buffer is; and the state of a builder.
-#[derive(Drop)]
+#[derive(Clone, Copy)]
 pub struct Kept {
     pub part: u64,
     pub len: usize,
@@ -46,8 +47,8 @@ pub fn nothing(part: u64) -> Kept {
 }
 
 // A line that cannot be read changes nothing.
-pub fn unreadable(k: Kept) -> Kept {
-    answers::print_unreadable();
+pub fn unreadable(to: &Stdout, k: Kept) -> Kept {
+    answers::print_unreadable(to);
     k
 }
 
@@ -57,10 +58,10 @@ pub fn starts_part(text: &[u8]) -> bool {
 }
 
 // What is kept where a part of a program starts: its number, and nothing of the part before.
-pub fn start_part(text: &[u8], parts: &[u8], k: Kept) -> Kept {
+pub fn start_part(to: &Stdout, text: &[u8], parts: &[u8], k: Kept) -> Kept {
     let place = pieces::find(pieces::piece(text, b' ', 1), parts);
     if !place.ok {
-        return unreadable(k);
+        return unreadable(to, k);
     }
     nothing(place.value)
 }
@@ -76,15 +77,22 @@ pub fn kept_length(k: Kept, space: &[u8]) -> usize
 }
 
 // Bytes put behind the first `at`, and at most so many in all.
-pub fn keep_bytes(bytes: &[u8], space: &mut [u8], at: usize, most: usize, k: Kept) -> Kept {
+pub fn keep_bytes(
+    to: &Stdout,
+    bytes: &[u8],
+    space: &mut [u8],
+    at: usize,
+    most: usize,
+    k: Kept,
+) -> Kept {
     if space.len() < most {
-        return unreadable(k);
+        return unreadable(to, k);
     }
     if most < at {
-        return unreadable(k);
+        return unreadable(to, k);
     }
     if most - at < bytes.len() {
-        return unreadable(k);
+        return unreadable(to, k);
     }
     number::put(space, at, bytes);
     let mut m = k;
@@ -92,44 +100,44 @@ pub fn keep_bytes(bytes: &[u8], space: &mut [u8], at: usize, most: usize, k: Kep
     m
 }
 
-pub fn keep_room(x: u64, space: &mut [u8], most: usize, k: Kept) -> Kept {
+pub fn keep_room(to: &Stdout, x: u64, space: &mut [u8], most: usize, k: Kept) -> Kept {
     if 16384 < x {
-        return unreadable(k);
+        return unreadable(to, k);
     }
     let fresh = [238u8; 16384];
-    keep_bytes(pieces::part(&fresh, 0, x as usize), space, 0, most, k)
+    keep_bytes(to, pieces::part(&fresh, 0, x as usize), space, 0, most, k)
 }
 
-fn cut(x: u64, k: Kept) -> Kept {
+fn cut(to: &Stdout, x: u64, k: Kept) -> Kept {
     if (k.len as u64) < x {
-        return unreadable(k);
+        return unreadable(to, k);
     }
     let mut m = k;
     m.len = x as usize;
     m
 }
 
-fn poke(x: u64, byte: u64, space: &mut [u8], k: Kept) -> Kept {
+fn poke(to: &Stdout, x: u64, byte: u64, space: &mut [u8], k: Kept) -> Kept {
     if 255 < byte {
-        return unreadable(k);
+        return unreadable(to, k);
     }
     let at = x as usize;
     if kept_length(k, space) <= at {
-        return unreadable(k);
+        return unreadable(to, k);
     }
     space[at] = byte as u8;
     k
 }
 
 // Carries one of these lines out, of a sheet of at most 4,096 bytes: what is kept then.
-pub fn keep(n: Case, b1: &[u8], space: &mut [u8], k: Kept) -> Kept {
+pub fn keep(to: &Stdout, n: Case, b1: &[u8], space: &mut [u8], k: Kept) -> Kept {
     let call = n.call;
     match call {
-        1 => keep_room(n.p1, space, 4096, k),
-        2 => keep_bytes(b1, space, 0, 4096, k),
-        3 => keep_bytes(b1, space, k.len, 4096, k),
-        4 => cut(n.p1, k),
-        _ => poke(n.p1, n.p2, space, k),
+        1 => keep_room(to, n.p1, space, 4096, k),
+        2 => keep_bytes(to, b1, space, 0, 4096, k),
+        3 => keep_bytes(to, b1, space, k.len, 4096, k),
+        4 => cut(to, n.p1, k),
+        _ => poke(to, n.p1, n.p2, space, k),
     }
 }
 

@@ -2,7 +2,7 @@
 // here gives: who takes a part of a text tests that it lies inside.
 
 // A number, or `ok` false where there is none.
-#[derive(Drop)]
+#[derive(Clone, Copy)]
 pub struct Number {
     pub ok: bool,
     pub value: u64,

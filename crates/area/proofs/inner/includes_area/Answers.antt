@@ -1,0 +1,17 @@
+-- One equation for each test that fails, and one for the times where none does.
+use mathlib.Core.Path.{sym, ◌∙◌, ap}
+use Rattle.willow.specs.Refusals.{value}
+use Rattle.area.proofs.LentAreaLaws.{first_fails, second_fails, third_decides, area_tests}
+use borrow.Author.Rules.{rules}
+use Rattle.area.proofs.inner.includes_area.Goals as goal
+
+pub returns-then-is_prefix_of : goal.returns-then-is_prefix_of
+returns-then-is_prefix_of c =
+    c.includes_range.ensures
+    ∙ ap value (third_decides _ _ _ (sym c.includes_area_subspace.ensures ∙ c.if-includes_area_subspace.true) (sym c.is_prefix_of.ensures ∙ c.if-is_prefix_of.true) ∙ area_tests _ _)
+
+pub returns-else-is_prefix_of : goal.returns-else-is_prefix_of
+returns-else-is_prefix_of c = ap value (second_fails _ _ _ (sym c.includes_area_subspace.ensures ∙ c.if-includes_area_subspace.true) (sym c.is_prefix_of.ensures ∙ c.if-is_prefix_of.false) ∙ area_tests _ _)
+
+pub returns-else-includes_area_subspace : goal.returns-else-includes_area_subspace
+returns-else-includes_area_subspace c = ap value (first_fails _ _ (sym c.includes_area_subspace.ensures ∙ c.if-includes_area_subspace.false) ∙ area_tests _ _)

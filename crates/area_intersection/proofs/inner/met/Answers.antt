@@ -1,0 +1,9 @@
+-- One equation for each side.
+use borrow.Author.Rules.{rules}
+use Rattle.area_intersection.proofs.inner.met.Goals as goal
+
+pub returns-in-First : goal.returns-in-First
+returns-in-First c = rw c.in-First.is
+
+pub returns-in-Second : goal.returns-in-Second
+returns-in-Second c = rw c.in-Second.is

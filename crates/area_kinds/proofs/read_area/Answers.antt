@@ -1,0 +1,11 @@
+-- The limits are tested, and then the kinds are read.
+use mathlib.Core.Path.{sym, ◌∙◌}
+use Rattle.kinds.proofs.KindLaws.{kinds_fine, kinds_limits}
+use borrow.Author.Rules.{rules}
+use Rattle.area_kinds.proofs.read_area.Goals as goal
+
+pub returns-then-limits_accepted : goal.returns-then-limits_accepted
+returns-then-limits_accepted c = c.read_kinds.ensures ∙ sym (kinds_fine _ _ _ (sym c.limits_accepted.ensures ∙ c.if-limits_accepted.true))
+
+pub returns : goal.returns
+returns c = sym (kinds_limits _ _ _ (sym c.limits_accepted.ensures ∙ c.if-limits_accepted.false))

@@ -1,0 +1,15 @@
+-- The test refuses, and the question is refused alike; or it passes, and the inner function answers for the two entries.
+use mathlib.Core.Path.{◌∙◌, ap}
+use Rattle.lent_path.proofs.TestLaws.{two_passed, two_refused, two_asked, readable_two}
+use Rattle.willow.specs.Refusals.{value}
+use borrow.Author.Rules.{rules}
+use Rattle.entry_questions.proofs.equal.Goals as goal
+
+pub is_equal-requires : goal.is_equal-requires
+is_equal-requires c = let r = readable_two _ _ _ _ _ (two_passed _ _ _ _ _ _ c.test_two-t.ensures c.in-Fine.is) in (search r, search r)
+
+pub returns-in-Refused : goal.returns-in-Refused
+returns-in-Refused c = two_refused _ _ _ _ _ _ _ _ c.test_two-t.ensures c.in-Refused.is
+
+pub returns-in-Fine : goal.returns-in-Fine
+returns-in-Fine c = c.answer.ensures ∙ ap value c.is_equal.ensures ∙ two_asked _ _ _ _ _ _ (two_passed _ _ _ _ _ _ c.test_two-t.ensures c.in-Fine.is)

@@ -1,0 +1,102 @@
+// For C: the calls of `host_construction`, as a static library. Each is the call of that name there, and promises what that promises;
+// the head of `host_construction` says how its arguments are passed.
+#![tactic(auto)]
+
+ghost use Rattle.std.specs.Prelude.{◌≡◌};
+ghost use Rattle.willow.specs.Answers.{on_path, packed_outcome, written_buffer, written_length};
+ghost use Rattle.construction.specs.Making.{appended_of, empty_outcome, iter_outcome, singleton_outcome, slices_appended_of, slices_outcome};
+ghost use Rattle.convention.specs.Exports.{given, itself, limits_of};
+
+use convention::Answer;
+
+// From slices: lengths as 8-byte numbers, and the bytes.
+#[unsafe(no_mangle)]
+pub extern "C" fn wotskrale_path_from_slices(
+    mcl: u64,
+    mcc: u64,
+    mpl: u64,
+    lengths: &[u8],
+    bytes: &[u8],
+    out: &mut [u8],
+) -> Answer
+    ensures value { result ≡ given itself (written_length (packed_outcome (slices_outcome (limits_of mcl mcc mpl) lengths.now bytes.now)) out.old) }
+    ensures out_after { out.new ≡ written_buffer (packed_outcome (slices_outcome (limits_of mcl mcc mpl) lengths.now bytes.now)) out.old }
+{
+    host_construction::wotskrale_path_from_slices(mcl, mcc, mpl, lengths, bytes, out)
+}
+
+// From slices with their total.
+#[unsafe(no_mangle)]
+pub extern "C" fn wotskrale_path_new_from_iter(
+    mcl: u64,
+    mcc: u64,
+    mpl: u64,
+    total: u64,
+    lengths: &[u8],
+    bytes: &[u8],
+    out: &mut [u8],
+) -> Answer
+    ensures value { result ≡ given itself (written_length (packed_outcome (iter_outcome (limits_of mcl mcc mpl) total lengths.now bytes.now)) out.old) }
+    ensures out_after { out.new ≡ written_buffer (packed_outcome (iter_outcome (limits_of mcl mcc mpl) total lengths.now bytes.now)) out.old }
+{
+    host_construction::wotskrale_path_new_from_iter(mcl, mcc, mpl, total, lengths, bytes, out)
+}
+
+// The empty path.
+#[unsafe(no_mangle)]
+pub extern "C" fn wotskrale_path_new_empty(mcl: u64, mcc: u64, mpl: u64, out: &mut [u8]) -> Answer
+    ensures value { result ≡ given itself (written_length (packed_outcome (empty_outcome (limits_of mcl mcc mpl))) out.old) }
+    ensures out_after { out.new ≡ written_buffer (packed_outcome (empty_outcome (limits_of mcl mcc mpl))) out.old }
+{
+    host_construction::wotskrale_path_new_empty(mcl, mcc, mpl, out)
+}
+
+// The path of one component.
+#[unsafe(no_mangle)]
+pub extern "C" fn wotskrale_path_new_singleton(
+    mcl: u64,
+    mcc: u64,
+    mpl: u64,
+    c: &[u8],
+    out: &mut [u8],
+) -> Answer
+    ensures value { result ≡ given itself (written_length (packed_outcome (singleton_outcome (limits_of mcl mcc mpl) c.now)) out.old) }
+    ensures out_after { out.new ≡ written_buffer (packed_outcome (singleton_outcome (limits_of mcl mcc mpl) c.now)) out.old }
+{
+    host_construction::wotskrale_path_new_singleton(mcl, mcc, mpl, c, out)
+}
+
+// A component behind a path.
+#[unsafe(no_mangle)]
+pub extern "C" fn wotskrale_path_append(
+    mcl: u64,
+    mcc: u64,
+    mpl: u64,
+    b: &[u8],
+    count: u64,
+    c: &[u8],
+    out: &mut [u8],
+) -> Answer
+    ensures value { result ≡ given itself (written_length (packed_outcome (on_path (limits_of mcl mcc mpl) b.now count (appended_of (limits_of mcl mcc mpl) c.now))) out.old) }
+    ensures out_after { out.new ≡ written_buffer (packed_outcome (on_path (limits_of mcl mcc mpl) b.now count (appended_of (limits_of mcl mcc mpl) c.now))) out.old }
+{
+    host_construction::wotskrale_path_append(mcl, mcc, mpl, b, count, c, out)
+}
+
+// Slices behind a path.
+#[unsafe(no_mangle)]
+pub extern "C" fn wotskrale_path_append_slice(
+    mcl: u64,
+    mcc: u64,
+    mpl: u64,
+    b: &[u8],
+    count: u64,
+    lengths: &[u8],
+    bytes: &[u8],
+    out: &mut [u8],
+) -> Answer
+    ensures value { result ≡ given itself (written_length (packed_outcome (on_path (limits_of mcl mcc mpl) b.now count (slices_appended_of (limits_of mcl mcc mpl) lengths.now bytes.now))) out.old) }
+    ensures out_after { out.new ≡ written_buffer (packed_outcome (on_path (limits_of mcl mcc mpl) b.now count (slices_appended_of (limits_of mcl mcc mpl) lengths.now bytes.now))) out.old }
+{
+    host_construction::wotskrale_path_append_slice(mcl, mcc, mpl, b, count, lengths, bytes, out)
+}

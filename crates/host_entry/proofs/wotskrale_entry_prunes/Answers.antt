@@ -1,0 +1,11 @@
+-- The call's own equation for the heads that were made, turned into numbers.
+use mathlib.Core.Path.{◌∙◌, ap}
+use Rattle.willow.specs.Entries.{prunes}
+use Rattle.willow.specs.Refusals.{value}
+use Rattle.convention.specs.Exports.{given, yes_number}
+use Rattle.host_entry.proofs.MadeHeads.{on_heads}
+use borrow.Author.Rules.{rules}
+use Rattle.host_entry.proofs.wotskrale_entry_prunes.Goals as goal
+
+pub returns : goal.returns
+returns c = c.asked.ensures ∙ ap (given yes_number) (c.prunes.ensures ∙ on_heads (λ x y. value (prunes x y)) _ _ _ _ _ _ _ _ _ _ _ c.new-h.ensures c.new-h2.ensures)

@@ -1,0 +1,8 @@
+-- The call's own equation, turned into numbers.
+use mathlib.Core.Path.{◌∙◌, ap}
+use Rattle.convention.specs.Exports.{given, itself}
+use borrow.Author.Rules.{rules}
+use Rattle.host_least.proofs.wotskrale_path_successor.Goals as goal
+
+pub returns : goal.returns
+returns c = record { value = c.counted.ensures ∙ ap (given itself) c.successor.ensures.result_value; out_after = c.successor.ensures.out_after }

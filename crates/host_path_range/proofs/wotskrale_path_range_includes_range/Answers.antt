@@ -1,0 +1,13 @@
+-- Refused as the reading was, or asked on the ranges that were read; either answer is turned into numbers.
+use mathlib.Core.Path.{◌∙◌, ap}
+use Rattle.convention.specs.Exports.{given, yes_number}
+use Rattle.kinds.proofs.KindLaws.{kinds_told}
+use Rattle.path_kinds.specs.PathKinds.{ranges_read}
+use borrow.Author.Rules.{rules}
+use Rattle.host_path_range.proofs.wotskrale_path_range_includes_range.Goals as goal
+
+pub returns-in-Refused : goal.returns-in-Refused
+returns-in-Refused c = c.asked.ensures ∙ ap (given yes_number) (kinds_told _ _ _ ranges_read _ _ c.read_ranges.ensures c.in-Refused.is)
+
+pub returns-in-Are : goal.returns-in-Are
+returns-in-Are c = c.asked-in-Are.ensures ∙ ap (given yes_number) (c.includes_range.ensures ∙ kinds_told _ _ _ ranges_read _ _ c.read_ranges.ensures c.in-Are.is)

@@ -1,0 +1,14 @@
+-- Refused as the reading was, or asked on the 3d ranges that were read; either answer is turned into numbers.
+use mathlib.Core.Path.{◌∙◌, ap}
+use Rattle.willow.specs.Orders.{order_number}
+use Rattle.convention.specs.Exports.{given}
+use Rattle.kinds.proofs.KindLaws.{kinds_told}
+use Rattle.range_3d_kinds.specs.Range3dKinds.{ranges3d_read}
+use borrow.Author.Rules.{rules}
+use Rattle.host_range_3d.proofs.wotskrale_range_3d_compare.Goals as goal
+
+pub returns-in-Refused : goal.returns-in-Refused
+returns-in-Refused c = c.compared.ensures ∙ ap (given order_number) (kinds_told _ _ _ ranges3d_read _ _ c.read_ranges_3d.ensures c.in-Refused.is)
+
+pub returns-in-Are : goal.returns-in-Are
+returns-in-Are c = c.compared-in-Are.ensures ∙ ap (given order_number) (c.compare.ensures ∙ kinds_told _ _ _ ranges3d_read _ _ c.read_ranges_3d.ensures c.in-Are.is)

@@ -1,0 +1,11 @@
+-- The test of the code is the definition's: decimal digits follow 0, the others a.
+use native.Mathlib.Omega.{arith}
+use borrow.Author.Rules.{rules}
+use borrow.Author.Tests.{lt-ltb, le-ltb}
+use Rattle.keyshow.proofs.inner.hex_digit.Goals as goal
+
+pub returns-then-d-lt10 : goal.returns-then-d-lt10
+returns-then-d-lt10 c = rw (lt-ltb _ _ c.if-d-lt10.true)
+
+pub returns-else-d-lt10 : goal.returns-else-d-lt10
+returns-else-d-lt10 c = rw (le-ltb _ _ c.if-d-lt10.false) (omega arith)

@@ -1,0 +1,40 @@
+-- The part that is cut out is the packed form of rule i's path, since the buffer holds bytes; else there is none, or 2, and the part is
+-- empty.
+use Prim.Native.Nat.{◌<◌}
+use mathlib.Core.Path.{◌≡◌, sym, ◌∙◌, ap}
+use mathlib.Core.Logic.{inl, inr}
+use mathlib.Core.Bool.{true}
+use borrow.Author.Tests.{ltb-true}
+use native.Mathlib.Omega.{arith}
+use Rattle.willow.proofs.NumberLaws.{bytes_by_index}
+use Rattle.reading.specs.Reading.{bytes_or}
+use Rattle.map_form.specs.Maps.{count_in}
+use Rattle.map_form.specs.MapTest.{is_map}
+use Rattle.map_reading.proofs.RuleCallLaws.{path_bad, path_none, path_there}
+use borrow.Author.Rules.{rules}
+use Rattle.map_reading.proofs.rule_path.Goals as goal
+use Rattle.map_reading.proofs.rule_path.Goals.{then-is_map+else-is_there, else-is_map}
+use Rattle.map_reading.proofs.rule_path.Goals.{Then-is_map, Then-is_there}
+
+passed : (c : Then-is_map) → is_map c.args.sheet.now ≡ true
+passed c = sym c.is_map.ensures ∙ c.if-is_map.true
+
+pub is_there-requires : goal.is_there-requires
+is_there-requires c = passed (goal.at.is_there-requires c).Then-is_map
+
+within : (c : Then-is_there) → c.args.i < count_in c.args.sheet.now
+within c = ltb-true _ _ (sym c.is_there.ensures ∙ c.if-is_there.true)
+
+pub rule_path-requires : goal.rule_path-requires
+rule_path-requires c = (passed (goal.at.rule_path-requires c).Then-is_map, omega (arith, within (goal.at.rule_path-requires c).Then-is_there))
+
+pub returns-then-is_there : goal.returns-then-is_there
+returns-then-is_there c =
+    let bytes = bytes_by_index c.args.sheet.now (λ i. (c.shared_slice_known-1.given i).fits) in
+    ap bytes_or (path_there _ (passed (goal.at.returns-then-is_there c).Then-is_map) _ (sym c.is_there.ensures ∙ c.if-is_there.true) bytes _ c.rule_path.ensures)
+
+pub returns : goal.returns
+returns c = elim c.if-is_map.branch [
+    then-is_map+else-is_there w ↦ ap bytes_or (path_none _ (sym c.is_map.ensures ∙ w.if-is_map.true) _ (sym w.is_there.ensures ∙ w.if-is_there.false))
+  | else-is_map w ↦ ap bytes_or (path_bad _ (sym c.is_map.ensures ∙ w.if-is_map.false) _)
+]

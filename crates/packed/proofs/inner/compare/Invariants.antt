@@ -1,0 +1,16 @@
+-- From i on the two compare as from the start, so that the first components that differ, or the end of one path, decide.
+use Rattle.std.proofs.Common.{◌≡◌, ◌+◌, ◌-◌, ◌≤◌, drop, sym, refl, ◌∙◌, arith, rules}
+use Rattle.willow.specs.declared.Order.{Order}
+use Rattle.willow.specs.declared.Order.TheVariants.{Less, Equal, Greater}
+use Rattle.willow.specs.Answers.{path_in}
+use Rattle.willow.specs.Orders.{then}
+use Rattle.willow.specs.Paths.{compare_paths}
+use Rattle.packed.proofs.WalkLaws.{compare_turn, compare_longer, compare_shorter, compare_ended}
+use Rattle.packed.proofs.inner.compare.Given as goal
+
+abbrev pub invariant-loop-i : goal.invariant-loop-i
+invariant-loop-i l =
+    (l.i ≤ l.ca) × (compare_paths (drop l.i (path_in l.a l.ca)) (drop l.i (path_in l.b l.cb)) ≡ compare_paths (path_in l.a l.ca) (path_in l.b l.cb))
+
+abbrev pub decreases-loop-i : goal.decreases-loop-i
+decreases-loop-i l = l.ca - l.i

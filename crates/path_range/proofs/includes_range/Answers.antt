@@ -1,0 +1,17 @@
+-- The test refuses, and the question is refused alike; or it passes, and the inner function's answer is given.
+use mathlib.Core.Path.{◌∙◌, ap}
+use Rattle.willow.specs.Refusals.{value}
+use Rattle.path_bounds.proofs.LentPathLaws.{paths_passed, paths_refused, paths_asked, ranges_readable}
+use borrow.Author.Rules.{rules}
+use Rattle.path_range.proofs.includes_range.Goals as goal
+
+pub includes_range-requires : goal.includes_range-requires
+includes_range-requires c =
+    let a = c.args in
+    ranges_readable _ a.range _ _ a.range2 _ _ (paths_passed _ _ _ c.test_ranges-t.ensures c.in-Fine.is)
+
+pub returns-in-Refused : goal.returns-in-Refused
+returns-in-Refused c = paths_refused _ _ _ _ _ c.test_ranges-t.ensures c.in-Refused.is
+
+pub returns-in-Fine : goal.returns-in-Fine
+returns-in-Fine c = c.answer.ensures ∙ ap value c.includes_range.ensures ∙ paths_asked _ _ _ (paths_passed _ _ _ c.test_ranges-t.ensures c.in-Fine.is)

@@ -1,0 +1,16 @@
+-- The test refuses, and the question is refused alike; or it passes, and the inner function answers for the two paths.
+use mathlib.Core.Path.{◌∙◌, ap}
+use Rattle.lent_path.proofs.TestLaws.{two_passed, two_refused, two_asked, readable_two}
+use Rattle.willow.specs.Refusals.{value}
+use Rattle.relation.specs.Relation.{order_of}
+use borrow.Author.Rules.{rules}
+use Rattle.relation.proofs.compare.Goals as goal
+
+pub compare-requires : goal.compare-requires
+compare-requires c = readable_two _ _ _ _ _ (two_passed _ _ _ _ _ _ c.test_two-t.ensures c.in-Fine.is)
+
+pub returns-in-Refused : goal.returns-in-Refused
+returns-in-Refused c = two_refused _ _ _ _ _ order_of _ _ c.test_two-t.ensures c.in-Refused.is
+
+pub returns-in-Fine : goal.returns-in-Fine
+returns-in-Fine c = ap value c.compare.ensures ∙ two_asked _ _ _ _ _ order_of (two_passed _ _ _ _ _ _ c.test_two-t.ensures c.in-Fine.is)

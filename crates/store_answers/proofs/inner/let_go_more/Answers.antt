@@ -1,0 +1,6 @@
+-- One number is written.
+use borrow.Author.Rules.{rules}
+use Rattle.store_answers.proofs.inner.let_go_more.Goals as goal
+
+pub returns : goal.returns
+returns c = c.write_u64.ensures

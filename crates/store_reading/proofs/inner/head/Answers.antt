@@ -1,0 +1,25 @@
+-- The head that is read of row i is that of entry i.
+use native.Mathlib.Omega.{arith}
+use Rattle.willow.specs.Numbers.{Bytes}
+use Rattle.willow.proofs.NumberLaws.{bytes_by_index}
+use Rattle.store_form.proofs.TestedLaws.{known}
+use Rattle.store_reading.proofs.EntryAtLaws.{rows_readable, head_whole}
+use borrow.Author.Rules.{rules}
+use Rattle.store_reading.proofs.inner.head.Goals as goal
+use Rattle.store_reading.proofs.inner.head.Goals.{After-shared_slice_known-1}
+
+bytes : (c : After-shared_slice_known-1) → Bytes c.args.sheet.now
+bytes c = bytes_by_index c.args.sheet.now (λ i. (c.shared_slice_known-1.given i).fits)
+
+pub read_u64-capacity-requires : goal.read_u64-capacity-requires
+read_u64-capacity-requires c = omega (arith, (known _ c.requires.0).long)
+
+pub read_u64-n-requires : goal.read_u64-n-requires
+read_u64-n-requires c = omega (arith, (known _ c.requires.0).long)
+
+pub head_at-requires : goal.head_at-requires
+head_at-requires c =
+    (rows_readable _ c.requires.0 (bytes (goal.at.head_at-requires c).After-shared_slice_known-1) _ _ _ c.limits.ensures c.read_u64-capacity.ensures c.read_u64-n.ensures, omega (arith, c.requires.1, c.read_u64-n.ensures))
+
+pub returns : goal.returns
+returns c = head_whole _ c.requires.0 (bytes (goal.at.returns c).After-shared_slice_known-1) _ c.requires.1 _ _ c.limits.ensures c.read_u64-capacity.ensures _ c.head_at.ensures

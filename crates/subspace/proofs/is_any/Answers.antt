@@ -1,0 +1,9 @@
+-- One equation for each kind of subspace.
+use borrow.Author.Rules.{rules}
+use Rattle.subspace.proofs.is_any.Goals as goal
+
+pub returns-in-Any : goal.returns-in-Any
+returns-in-Any c = rw c.in-Any.is
+
+pub returns-in-Id : goal.returns-in-Id
+returns-in-Id c = rw c.in-Id.is
