@@ -2,11 +2,11 @@
 -- three writes, each from where the one before it ended: the count, the accumulated lengths, the bytes.
 use Prim.Native.Nat.{ℕ, zero, suc, ◌+◌, ◌-◌, ◌*◌, ◌≤◌, ◌<◌, min}
 use mathlib.Core.Path.{◌≡◌, refl, sym, ◌∙◌, ap}
-use mathlib.Core.List.{List, [], ◌∷◌, ◌++◌, append_assoc}
+use mathlib.Core.List.{List, ◌++◌, append_assoc}
 use mathlib.Core.Bool.{true, false}
 use native.Mathlib.Omega.{arith}
 use native.Mathlib.Nat.{mul-zero, mul-suc}
-use lib.ListN.{length, set, replicate, length-append, length-replicate, replicate-append-replicate}
+use lib.ListN.{length, replicate, length-append, length-replicate, replicate-append-replicate}
 use borrow.Author.Tests.{le-leb, lt-leb}
 use Rattle.willow.specs.declared.Limits.{Limits}
 use Rattle.willow.specs.declared.Refusal.TheVariants.{BadLimits, OutTooSmall}
@@ -21,7 +21,7 @@ use Rattle.willow.proofs.AnswerLaws.{made_as}
 use Rattle.willow.proofs.NumberLaws.{le_length}
 use Rattle.willow.proofs.PackedLaws.{accumulated_length, joined_length, pack_length}
 use Rattle.number.specs.Overwriting.{overwrite}
-use Rattle.number.proofs.OverwritingLaws.{overwrite_append, overwrite_at_front, overwrite_nil, store_overwrite, written_on}
+use Rattle.number.proofs.OverwritingLaws.{overwrite_append, overwrite_at_front, overwrite_nil, written_on}
 use Rattle.construction.specs.Making.{under_limits}
 use Rattle.greatest.specs.Greatest.{greatest_outcome}
 

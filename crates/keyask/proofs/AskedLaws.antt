@@ -1,11 +1,11 @@
 -- From a text to the outcome of a question on it: the path is read, made, and handed to the call; each step's outcome decides
 -- the next.
-use Prim.Native.Nat.{ℕ, ◌+◌, ◌-◌, ◌*◌, ◌≤◌}
-use mathlib.Core.List.{List, [], ◌∷◌, ◌++◌}
+use Prim.Native.Nat.{ℕ, ◌-◌, ◌*◌, ◌≤◌}
+use mathlib.Core.List.{List}
 use mathlib.Core.Option.{Option, none, some}
 use mathlib.Core.Path.{◌≡◌, refl, sym, ◌∙◌, ap, subst}
 use native.Mathlib.Omega.{arith}
-use lib.ListN.{length, take, drop}
+use lib.ListN.{length, take}
 use Rattle.willow.specs.declared.Counted.{Counted}
 use Rattle.willow.specs.declared.Limits.{Limits}
 use Rattle.willow.specs.declared.Refusal.{Refusal}
@@ -19,7 +19,6 @@ use Rattle.willow.specs.Packed.{joined}
 use Rattle.willow.specs.Paths.{Path, path_length}
 use Rattle.willow.specs.Refusals.{Outcome, refused, absent, value}
 use Rattle.willow.proofs.PackedLaws.{joined_length}
-use Rattle.number.specs.Overwriting.{overwrite}
 use Rattle.number.proofs.OverwritingLaws.{front_written, length_overwrite}
 use Rattle.construction.specs.Making.{under_limits, slices_outcome}
 use Rattle.least.specs.Places as least
@@ -33,7 +32,7 @@ use Rattle.keyread.specs.Parts.{PathRead, sizes}
 use Rattle.keyread.proofs.PieceLaws.{sizes_length}
 use Rattle.keyask.specs.declared.inner.Found.{Found}
 use Rattle.keyask.specs.declared.inner.Found.TheVariants as found
-use Rattle.keyask.specs.Found.{max_packed, Stands, Finds, Wrote, Sound, found_as, CountReadable, made_outcome, text_outcome}
+use Rattle.keyask.specs.Found.{max_packed, Stands, Finds, Sound, found_as, CountReadable, made_outcome, text_outcome}
 use Rattle.keyask.proofs.FoundLaws.{wrote_found, made_sound, slices_made, on_stands, successor_sound, next_greater_sound}
 
 -- THE PATH OF A TEXT, as its lengths and bytes were read

@@ -6,9 +6,9 @@ use mathlib.Core.List.{List, [], ◌∷◌, ◌++◌, append-nil}
 use mathlib.Core.Logic.{◌⊎◌, inl, inr}
 use mathlib.Core.Path.{◌≡◌, refl, sym, ◌∙◌, ap, subst}
 use native.Mathlib.Omega.{arith}
-use lib.Dec.{ltb, eqb}
-use lib.ListN.{length, take, drop, get_or, set, length-append, length-set, length-take}
-use lib.Seq.{length-take-le, take-suc, take-suc-set, take_all}
+use lib.Dec.{ltb}
+use lib.ListN.{length, take, get_or, set, length-append, length-set, length-take}
+use lib.Seq.{length-take-le, take-suc, take-suc-set}
 use borrow.Author.Tests.{lt-ltb, le-ltb, ltb-true, ltb-false, eq-eqb, ne_eqb}
 use Rattle.willow.specs.declared.Refusal.TheVariants.{BadKind}
 use Rattle.willow.specs.Limits.{max_word}
@@ -21,11 +21,10 @@ use Rattle.keyform.specs.Texts.{newline}
 use Rattle.keyform.specs.Wording.{max_line}
 use Rattle.keyform.proofs.AnsweringLaws.{answer_bound, refused_length}
 use Rattle.keyform.proofs.PrintingLaws.{held_append, printed_append}
-use Rattle.keyinput.specs.declared.inner.Fed.{Fed}
 use Rattle.keyinput.specs.declared.inner.Pending.{Pending}
 use Rattle.keyinput.specs.declared.inner.Step.{Step}
 use Rattle.keyline.proofs.AnswerLaws.{ended_is}
-use Rattle.keyinput.specs.Held.{Scratch, held_in, Fits, Takes, Feeds}
+use Rattle.keyinput.specs.Held.{Scratch, held_in, Fits, Takes}
 
 -- BY THE FLAG
 pub held_long : (p : Pending) (line : List ℕ) → p.long ≡ true → held_in p line ≡ overlong

@@ -12,7 +12,7 @@ use Rattle.willow.specs.declared.Refusal.{Refusal}
 use Rattle.willow.specs.declared.Refusal.TheVariants.{BadKind, OutTooSmall}
 use Rattle.willow.specs.Answers.{path_in, written_length, written_buffer}
 use Rattle.willow.specs.Paths.{Path}
-use Rattle.willow.specs.Refusals.{Outcome, refused, absent, value}
+use Rattle.willow.specs.Refusals.{Outcome, refused, value}
 use Rattle.number.specs.Overwriting.{overwrite}
 use Rattle.number.proofs.OverwritingLaws.{length_overwrite, overwrite_at_front, front_written, store_overwrite, written_on}
 use Rattle.keyask.specs.declared.inner.Found.{Found}

@@ -1,18 +1,18 @@
 -- Decimal and hexadecimal digits by their tests, a numeral digit by digit, and hexadecimal two digits at a time.
 use Prim.Native.Nat.{ℕ, suc, ◌+◌, ◌-◌, ◌*◌, ◌^◌, ◌≤◌, ◌<◌}
-use mathlib.Core.Bool.{Bool, true, false, ◌&&◌, cond, and-eq-true_iff}
-use mathlib.Core.List.{List, [], ◌∷◌, ◌++◌}
-use mathlib.Core.Option.{Option, none, some}
-use mathlib.Core.Path.{◌≡◌, refl, sym, ◌∙◌, ap}
+use mathlib.Core.Bool.{true, false}
+use mathlib.Core.List.{List, ◌∷◌}
+use mathlib.Core.Option.{none, some}
+use mathlib.Core.Path.{◌≡◌, sym, ◌∙◌, ap}
 use native.Mathlib.Nat.{pow-le-pow_right}
 use native.Mathlib.Omega.{arith}
-use lib.Dec.{eqb, leb, ltb}
+use lib.Dec.{leb}
 use lib.ListN.{length, drop, get_or, drop_of_length-le}
 use lib.Seq.{drop-cons}
 use borrow.Author.Tests.{leb-true, le-leb, lt-leb, lt-ltb, le-ltb, eq-eqb, ne_eqb}
 use Rattle.willow.proofs.Bools.{both_true}
-use Rattle.keyform.specs.Reading.{Field, field_from, is_digit, hex_value}
-use Rattle.keyform.specs.Texts.{space, digit_zero, most_digits}
+use Rattle.keyform.specs.Reading.{field_from, is_digit, hex_value}
+use Rattle.keyform.specs.Texts.{space, most_digits}
 
 -- a digit lies between 0 and 9
 pub digit_bounds : (b : ℕ) → is_digit b ≡ true → (48 ≤ b) × (b ≤ 57)

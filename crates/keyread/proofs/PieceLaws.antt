@@ -2,23 +2,23 @@
 use Prim.Native.Nat.{ℕ, suc, ◌+◌, ◌-◌, ◌*◌, ◌/◌, ◌≤◌, ◌<◌}
 use mathlib.Core.Bool.{Bool, true, false, true≢false, false≢true}
 use mathlib.Core.List.{List, [], ◌∷◌, ◌++◌, append_assoc, append-nil}
-use mathlib.Core.Option.{Option, none, some}
+use mathlib.Core.Option.{none, some}
 use mathlib.Core.Path.{◌≡◌, refl, sym, ◌∙◌, ap, subst}
 use native.Mathlib.Omega.{arith}
 use lib.Dec.{eqb}
-use lib.ListN.{length, take, drop, get_or, length-append, length-drop, length-take}
+use lib.ListN.{length, take, drop, get_or, length-append, length-drop}
 use lib.Seq.{get_or-drop, drop-drop, take-length}
 use borrow.Author.Tests.{le-leb, lt-leb, eq-eqb, ne_eqb}
 use Rattle.willow.specs.Numbers.{le}
 use Rattle.willow.specs.Packed.{joined}
-use Rattle.willow.specs.Paths.{Component, Path, path_length}
+use Rattle.willow.specs.Paths.{Path, path_length}
 use Rattle.willow.proofs.NumberLaws.{le_length}
 use Rattle.willow.proofs.PackedLaws.{joined_length}
 use Rattle.willow.proofs.PackedPlaces.{joined_append}
 use Rattle.willow.proofs.ValidLaws.{path_length_append}
 use Rattle.number.specs.Overwriting.{overwrite}
 use Rattle.number.proofs.OverwritingLaws.{length_part, overwrite_nil, written_on, length_overwrite}
-use Rattle.keyform.specs.Reading.{before, before_or, is_dash, is_unit, read_component, read_components, read_hex, read_path}
+use Rattle.keyform.specs.Reading.{before_or, is_dash, is_unit, read_component, read_components, read_hex, read_path}
 use Rattle.keyform.specs.Splitting.{pieces}
 use Rattle.keyform.specs.Texts.{slash}
 use Rattle.keyform.proofs.HexLaws.{hex_written}

@@ -8,7 +8,7 @@ use native.Mathlib.Omega.{arith}
 use lib.Dec.{eqb}
 use lib.ListN.{length, drop, get_or, drop_of_length-le}
 use lib.Seq.{drop-cons}
-use borrow.Author.Tests.{eq-eqb, ne_eqb}
+use borrow.Author.Tests.{ne_eqb}
 use Rattle.keyform.specs.Reading.{asks, read_field, read_line, read_path, read_question, with_question}
 use Rattle.keyform.specs.Texts.{space}
 use Rattle.keyform.specs.Wording.{Question, successor_of, next_greater_of, greatest_path}

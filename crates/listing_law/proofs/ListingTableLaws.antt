@@ -2,12 +2,11 @@
 -- lists the positions of `ListingTheorem`. Where there is no map it is refused with 2, and a map is never so refused.
 use Prim.Native.Nat.{ℕ}
 use mathlib.Core.Path.{◌≡◌, refl, sym, ◌∙◌, ap}
-use mathlib.Core.Logic.{◌↔◌}
 use mathlib.Core.List.{List, []}
 use mathlib.Core.Option.{Option, none, some}
 use mathlib.Core.Bool.{Bool, true, false, cond}
 use native.Mathlib.Omega.{arith}
-use Rattle.willow.specs.declared.Refusal.TheVariants.{BadSheet, BadKind, BadPath}
+use Rattle.willow.specs.declared.Refusal.TheVariants.{BadSheet}
 use Rattle.willow.specs.Answers.{unless, or_else, path_missing, lent_refusal, path_in}
 use Rattle.willow.specs.Limits.{Words}
 use Rattle.willow.specs.Numbers.{Bytes}
@@ -21,10 +20,9 @@ use Rattle.map_form.specs.Maps.{MapSizes, Rule, IsMap, sizes_in, rules_in}
 use Rattle.map_form.specs.MapTest.{is_map, map_refusal}
 use Rattle.map_form.proofs.MapProofs.{map_reading}
 use Rattle.map_law.specs.Insertions.{AreaArgument, parts_in, kinds_missing, area_refusal, area_passed}
-use Rattle.map_law.specs.MapTheorem.{GoodKinds, LendsPath}
 use Rattle.map_law.proofs.ArgumentLaws.{parts_good, parts_mean, none_bad}
 use Rattle.listing_law.specs.Listings.{positions, positions_for, listing}
-use Rattle.listing_law.specs.ListingTable.{Lists, ListedByTable, ListingOnBytes}
+use Rattle.listing_law.specs.ListingTable.{ListedByTable, ListingOnBytes}
 use Rattle.listing_law.proofs.ListingProofs.{listing_theorem}
 
 -- Two answers that differ.

@@ -7,7 +7,6 @@ use mathlib.Core.Option.{Option, none, some}
 use mathlib.Core.Bool.{Bool, true, false, cond, false≢true}
 use native.Mathlib.Omega.{arith}
 use lib.Dec.{eqb}
-use Rattle.willow.specs.declared.Limits.{Limits}
 use Rattle.willow.specs.declared.Refusal.{Refusal}
 use Rattle.willow.specs.declared.Refusal.TheVariants.{BadLimits, BadSheet, NoRoom}
 use Rattle.willow.specs.Answers.{or_else, unless, limits_refusal, path_missing, lent_refusal}
@@ -20,7 +19,7 @@ use Rattle.area_kinds.specs.AreaKinds.{Parts}
 use Rattle.map_form.specs.Maps.{MapSizes, Rule, map_layout, IsMap, sizes_in, count_in}
 use Rattle.map_form.specs.MapTest.{is_map}
 use Rattle.map_form.proofs.MapProofs.{map_reading}
-use Rattle.map_law.specs.Insertions.{fresh_map, Insertion, parts_in, kinds_missing, area_refusal, insert_refusal, insert_answer, leaves_for, insert_leaves}
+use Rattle.map_law.specs.Insertions.{fresh_map, parts_in, kinds_missing, area_refusal, insert_refusal, insert_answer, leaves_for, insert_leaves}
 use Rattle.map_law.specs.MapTheorem.{FreshMapRefused, RefusedAsNoMap, InsertionRefusedUnchanged}
 
 -- An answer's refusal number, 0 where it is none.

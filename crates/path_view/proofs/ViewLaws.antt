@@ -6,7 +6,6 @@ use mathlib.Core.List.{List, [], ◌∷◌}
 use native.Mathlib.Omega.{arith}
 use lib.ListN.{take}
 use lib.Seq.{take-nil}
-use Rattle.willow.specs.Packed.{Lent}
 use Rattle.path_view.specs.Views.{ViewPrefix}
 
 take_of_take : {A : Type 0} (k n : ℕ) (l : List A) → take k (take n l) ≡ take (min k n) l

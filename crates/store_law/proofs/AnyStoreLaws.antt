@@ -1,6 +1,6 @@
 -- An offer to any store. A proper state has the invariant of demand 3 with its own entries for the history, before which the bytes that
 -- it let go were let go. So one offer leads it on as demand 3's step says, and what that says of the history comes out in the entries.
-use Prim.Native.Nat.{ℕ, ◌+◌}
+use Prim.Native.Nat.{◌+◌}
 use mathlib.Core.Path.{◌≡◌, refl, sym, ◌∙◌, ap, subst}
 use mathlib.Core.Logic.{◌⊎◌, inl, inr, ◌↔◌}
 use mathlib.Core.List.{List, [], ◌∷◌, ◌++◌}
@@ -10,15 +10,14 @@ use native.Mathlib.Omega.{arith}
 use lib.Dec.{eqb}
 use lib.ListN.{drop}
 use borrow.Author.Tests.{eqb-true}
-use Rattle.willow.specs.declared.Order.TheVariants.{Less}
 use Rattle.willow.specs.declared.Refusal.TheVariants.{WrongNamespace}
 use Rattle.willow.specs.Demand3.{with_entry, grown, Stays, Makes, ByTable}
-use Rattle.willow.specs.Entries.{Entry, ValidEntry, Prunes, PlaceBelow, compare_places}
+use Rattle.willow.specs.Entries.{Entry, ValidEntry, Prunes, PlaceBelow}
 use Rattle.willow.specs.Limits.{Words}
 use Rattle.willow.specs.Lists.{In, Ascending}
 use Rattle.willow.specs.Packed.{lent}
 use Rattle.willow.specs.Paths.{Path}
-use Rattle.willow.specs.Store.{Sizes, State, Offer, Passed, offer, Answer, refused, outdated, repeated, taken, is_refused, entry_with, entry_from, offered, payloads, answer_entry, answer_offered, answer, after_answer, after_offered, after}
+use Rattle.willow.specs.Store.{Sizes, State, Offer, Passed, offer, Answer, refused, is_refused, entry_with, entry_from, offered, answer_entry, answer_offered, answer, after_answer, after_offered, after}
 use Rattle.willow.proofs.AnswerLaws.{accepted_words}
 use Rattle.willow.proofs.Demand3Laws.{View, v_refused, v_outdated, v_repeated, v_taken, view, Inv, given_by}
 use Rattle.willow.proofs.EntryLaws.{places_means, prunes_irreflexive}
@@ -27,8 +26,8 @@ use Rattle.willow.proofs.ListLaws.{all_also, all_in, in_left, in_last, in_snoc}
 use Rattle.willow.proofs.PackedLaws.{packed_form}
 use Rattle.willow.proofs.TableLaws.{by_table}
 use Rattle.sheet.specs.Rows.{sheet_length}
-use Rattle.store_form.specs.Stores.{store_shape, store_layout, Stands, ProperStore, IsStore}
-use Rattle.store_law.specs.AnyStore.{Leaves, Filed, OfferTo, AnyStore}
+use Rattle.store_form.specs.Stores.{store_shape, store_layout, Stands, ProperStore}
+use Rattle.store_law.specs.AnyStore.{Leaves, AnyStore}
 use Rattle.store_law.specs.Offers.{answer_in, leaves_in}
 use Rattle.store_law.proofs.Demand3BytesLaws.{refused_stays}
 use Rattle.store_law.proofs.LaidOutLaws.{laid_rest, laid_answer, laid_leaves}

@@ -1,13 +1,12 @@
 -- The history is what was passed: an offer of another namespace or without a path is refused and adds nothing, and any other makes the
 -- entry that is computed from it, which is added unless the answer is a refusal.
-use Prim.Native.Nat.{ℕ}
-use mathlib.Core.Path.{◌≡◌, refl, sym, ◌∙◌, ap, subst}
+use mathlib.Core.Path.{◌≡◌, refl, sym, subst}
 use mathlib.Core.List.{List, [], ◌∷◌, ◌++◌, append-nil}
 use mathlib.Core.Option.{Option, none, some}
 use mathlib.Core.Bool.{Bool, true, false, cond}
 use lib.Dec.{eqb}
 use borrow.Author.Tests.{eqb-true}
-use Rattle.willow.specs.declared.Refusal.TheVariants.{WrongNamespace, BadPath}
+use Rattle.willow.specs.declared.Refusal.TheVariants.{WrongNamespace}
 use Rattle.willow.specs.Demand3.{with_entry, grown, history, Makes, Adds, HistoryOf, CallPassed}
 use Rattle.willow.specs.Entries.{Entry}
 use Rattle.willow.specs.Limits.{Words}

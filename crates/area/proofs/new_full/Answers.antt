@@ -2,7 +2,6 @@
 use mathlib.Core.Path.{◌∙◌, ap}
 use Rattle.area.specs.LentAreas.{area_in}
 use Rattle.area.proofs.LentAreaLaws.{full_made}
-use borrow.Author.Rules.{rules}
 use Rattle.area.proofs.new_full.Goals as goal
 
 pub returns : goal.returns

@@ -1,7 +1,6 @@
 -- The test refuses, and the question is refused alike; or it passes, and the inner function answers for the two areas.
 use mathlib.Core.Path.{◌∙◌}
 use Rattle.lent_path.proofs.TestLaws.{two_passed, two_refused, two_asked, readable_two}
-use borrow.Author.Rules.{rules}
 use Rattle.area_intersection.proofs.intersection.Goals as goal
 
 pub intersection-requires : goal.intersection-requires

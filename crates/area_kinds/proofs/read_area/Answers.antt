@@ -1,7 +1,6 @@
 -- The limits are tested, and then the kinds are read.
 use mathlib.Core.Path.{sym, ◌∙◌}
 use Rattle.kinds.proofs.KindLaws.{kinds_fine, kinds_limits}
-use borrow.Author.Rules.{rules}
 use Rattle.area_kinds.proofs.read_area.Goals as goal
 
 pub returns-then-limits_accepted : goal.returns-then-limits_accepted

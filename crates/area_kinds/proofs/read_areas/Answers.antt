@@ -2,7 +2,6 @@
 use mathlib.Core.Path.{refl, sym, ◌∙◌, ap}
 use Rattle.kinds.proofs.KindLaws.{both_asked}
 use Rattle.area_kinds.specs.AreaKinds.{area_read}
-use borrow.Author.Rules.{rules}
 use Rattle.area_kinds.proofs.read_areas.Goals as goal
 
 pub returns-in-Refused : goal.returns-in-Refused

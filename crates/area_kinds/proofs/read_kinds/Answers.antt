@@ -6,7 +6,6 @@ use Rattle.kinds.specs.Kinds.{range_read, subspace_read}
 use Rattle.kinds.proofs.KindLaws.{range_found, subspace_found}
 use Rattle.area_kinds.specs.AreaKinds.{parts}
 use Rattle.area_kinds.proofs.AreaKindLaws.{area_read_lem}
-use borrow.Author.Rules.{rules}
 use Rattle.area_kinds.proofs.read_kinds.Goals as goal
 
 pub returns-in-Bad : goal.returns-in-Bad

@@ -7,7 +7,6 @@ use Rattle.area_kinds.specs.AreaKinds.{area_read}
 use Rattle.map_form.specs.Maps.{sizes_in}
 use Rattle.map_form.specs.MapTest.{is_map}
 use Rattle.area_map.proofs.InsertLaws.{known, not_a_map, kinds_refused, as_parts}
-use borrow.Author.Rules.{rules}
 use Rattle.area_map.proofs.insert.Goals as goal
 
 pub read_u64-requires : goal.read_u64-requires

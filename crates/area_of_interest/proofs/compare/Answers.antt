@@ -2,7 +2,6 @@
 use mathlib.Core.Path.{refl, sym, ◌∙◌, ap}
 use Rattle.willow.specs.declared.Compared.TheVariants.{Is}
 use Rattle.area_of_interest.proofs.LentInterestLaws.{compared_by}
-use borrow.Author.Rules.{rules}
 use Rattle.area_of_interest.proofs.compare.Goals as goal
 
 pub returns-in-Refused : goal.returns-in-Refused

@@ -2,7 +2,6 @@
 use mathlib.Core.Path.{◌∙◌, ap}
 use Rattle.area_of_interest.specs.Interests.{interest_in}
 use Rattle.area_of_interest.proofs.LentInterestLaws.{full_carried}
-use borrow.Author.Rules.{rules}
 use Rattle.area_of_interest.proofs.default.Goals as goal
 
 pub returns : goal.returns

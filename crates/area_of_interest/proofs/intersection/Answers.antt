@@ -3,7 +3,6 @@ use mathlib.Core.Path.{◌∙◌, ap}
 use Rattle.area_of_interest.specs.declared.InterestMet.TheVariants.{First, Second}
 use Rattle.area_of_interest.specs.Interests.{met_outcome}
 use Rattle.area_of_interest.proofs.LentInterestLaws.{intersected_by}
-use borrow.Author.Rules.{rules}
 use Rattle.area_of_interest.proofs.intersection.Goals as goal
 
 pub returns-in-Refused : goal.returns-in-Refused

@@ -1,9 +1,7 @@
 -- From i on the two compare as from the given place, and 8 bytes that agree change nothing.
 use Prim.Native.Nat.{◌-◌, ◌≤◌}
-use mathlib.Core.Path.{◌≡◌, refl, sym, ◌∙◌}
-use native.Mathlib.Omega.{arith}
+use mathlib.Core.Path.{◌≡◌}
 use lib.ListN.{drop}
-use borrow.Author.Rules.{rules}
 use Rattle.willow.specs.Paths.{compare_components}
 use Rattle.component.proofs.agree8.Given as goal
 

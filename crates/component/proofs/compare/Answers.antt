@@ -1,6 +1,5 @@
 -- The steps by 64 and by 8 bytes change nothing, and the rest behind them is compared byte by byte.
 use mathlib.Core.Path.{◌∙◌}
-use borrow.Author.Rules.{rules}
 use Rattle.component.proofs.ComponentLaws.{compare_parts}
 use Rattle.component.proofs.compare.Goals as goal
 

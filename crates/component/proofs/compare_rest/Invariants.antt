@@ -1,14 +1,8 @@
 -- From i on the two compare as from the start, so that the first bytes that differ, or the end of one list, decide.
-use Prim.Native.Nat.{◌+◌, ◌-◌, ◌≤◌}
-use mathlib.Core.Path.{◌≡◌, refl, sym, ◌∙◌}
-use native.Mathlib.Omega.{arith}
+use Prim.Native.Nat.{◌-◌, ◌≤◌}
+use mathlib.Core.Path.{◌≡◌}
 use lib.ListN.{length, drop}
-use borrow.Author.Rules.{rules}
-use Rattle.willow.specs.declared.Order.TheVariants.{Equal}
-use Rattle.willow.specs.Orders.{compare_numbers}
 use Rattle.willow.specs.Paths.{compare_components}
-use Rattle.willow.proofs.OrderLaws.{equal_by, numbers_total}
-use Rattle.component.proofs.ComponentLaws.{lists_by, lists_differ, lists_longer, lists_shorter, lists_ended}
 use Rattle.component.proofs.compare_rest.Given as goal
 
 abbrev pub invariant-loop-i : goal.invariant-loop-i

@@ -1,5 +1,4 @@
 -- No bit in either half: both halves agree.
-use borrow.Author.Rules.{rules}
 use Rattle.component.proofs.ComponentLaws.{agree_twice}
 use Rattle.component.proofs.differ16.Goals as goal
 

@@ -1,6 +1,5 @@
 -- Numbers that do not differ are the same eight bytes.
 use mathlib.Core.Path.{sym, ◌∙◌}
-use borrow.Author.Rules.{rules}
 use Rattle.willow.proofs.NumberLaws.{bytes_by_index}
 use Rattle.component.proofs.ComponentLaws.{agree_eight}
 use Rattle.component.proofs.differ8.Goals as goal

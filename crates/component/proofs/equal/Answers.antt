@@ -1,6 +1,5 @@
 -- Lists of different lengths are not equal; of the same length, the comparison says so.
 use mathlib.Core.Path.{sym, ◌∙◌, ap}
-use borrow.Author.Rules.{rules}
 use Rattle.willow.specs.Orders.{is_equal, compare_numbers}
 use Rattle.component.proofs.ComponentLaws.{lists_apart}
 use Rattle.component.proofs.equal.Goals as goal

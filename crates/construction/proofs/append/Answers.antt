@@ -2,7 +2,6 @@
 use Prim.Native.Nat.{◌≤◌}
 use native.Mathlib.Omega.{arith}
 use lib.ListN.{length}
-use borrow.Author.Rules.{rules}
 use Rattle.willow.specs.Limits.{max_word}
 use Rattle.construction.proofs.MakingLaws.{one_appended}
 use Rattle.willow.proofs.AnswerLaws.{made_as}

@@ -1,5 +1,4 @@
 -- The test of the path refuses 1 and 5, the admission 6 to 9, each as the outcome says; what passes both is the outcome's path.
-use borrow.Author.Rules.{rules}
 use Rattle.willow.proofs.AnswerLaws.{path_passed, made_as}
 use Rattle.lent_path.proofs.TestLaws.{one_passed, one_refused, readable}
 use Rattle.construction.specs.Making.{slices_appended_of}

@@ -1,5 +1,4 @@
 -- Eight zero bytes are the empty path, and what is behind it is the path from slices.
-use borrow.Author.Rules.{rules}
 use Rattle.construction.proofs.MakingLaws.{slices_on_empty}
 use Rattle.willow.proofs.AnswerLaws.{made_as}
 use Rattle.construction.proofs.from_slices.Goals as goal

@@ -1,5 +1,4 @@
 -- No slices make the empty path, which is admitted under any limits.
-use borrow.Author.Rules.{rules}
 use Rattle.construction.proofs.MakingLaws.{none_made}
 use Rattle.willow.proofs.AnswerLaws.{made_as}
 use Rattle.construction.proofs.new_empty.Goals as goal

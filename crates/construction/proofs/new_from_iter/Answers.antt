@@ -1,6 +1,5 @@
 -- With the right total it is the path from slices; else the limits are judged first, and then the lengths are refused.
 use mathlib.Core.Path.{refl, sym, ◌∙◌}
-use borrow.Author.Rules.{rules}
 use Rattle.construction.proofs.MakingLaws.{iter_summed, iter_lengths, iter_limits}
 use Rattle.willow.proofs.AnswerLaws.{made_as}
 use Rattle.construction.proofs.new_from_iter.Goals as goal

@@ -1,5 +1,4 @@
 -- One component behind the empty path is the path of that component.
-use borrow.Author.Rules.{rules}
 use Rattle.construction.proofs.MakingLaws.{one_on_empty}
 use Rattle.willow.proofs.AnswerLaws.{made_as}
 use Rattle.construction.proofs.new_singleton.Goals as goal

@@ -1,6 +1,5 @@
 -- What is refused is refused alike.
 use mathlib.Core.Path.{sym, ap}
-use borrow.Author.Rules.{rules}
 use Rattle.willow.specs.Answers.{tested_refusal}
 use Rattle.construction.specs.Making.{refused_as}
 use Rattle.construction.proofs.refuse.Goals as goal

@@ -1,5 +1,4 @@
 -- One equation for each case of the answer.
-use borrow.Author.Rules.{rules}
 use Rattle.convention.proofs.compared.Goals as goal
 
 pub returns-in-Refused : goal.returns-in-Refused

@@ -2,7 +2,6 @@
 use mathlib.Core.Path.{◌∙◌, ap}
 use Rattle.lent_path.proofs.TestLaws.{two_passed, two_refused, two_asked, readable_two}
 use Rattle.willow.specs.Refusals.{value}
-use borrow.Author.Rules.{rules}
 use Rattle.entry_questions.proofs.compare_places.Goals as goal
 
 pub compare_places-requires : goal.compare_places-requires

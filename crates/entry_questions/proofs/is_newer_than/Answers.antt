@@ -1,7 +1,6 @@
 -- The test, as an answer.
 use mathlib.Core.Path.{◌∙◌, ap}
 use Rattle.willow.specs.Refusals.{value}
-use borrow.Author.Rules.{rules}
 use Rattle.entry_questions.proofs.is_newer_than.Goals as goal
 
 pub returns : goal.returns

@@ -1,12 +1,8 @@
 -- What is left to fill from here gives what was to be filled at first.
 use Prim.Native.Nat.{◌+◌, ◌-◌, ◌≤◌}
-use mathlib.Core.Path.{◌≡◌, refl, sym, ◌∙◌}
-use native.Mathlib.Omega.{arith}
-use lib.ListN.{length, length-set, replicate}
-use borrow.Author.Rules.{rules}
+use mathlib.Core.Path.{◌≡◌}
+use lib.ListN.{length, replicate}
 use Rattle.number.specs.Overwriting.{overwrite}
-use Rattle.number.proofs.OverwritingLaws.{overwrite_nil}
-use Rattle.number.proofs.LoopLaws.{fill_turn}
 use Rattle.greatest.proofs.fill.Given as goal
 
 abbrev pub invariant-loop-j : goal.invariant-loop-j

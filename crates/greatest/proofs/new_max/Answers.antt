@@ -3,8 +3,6 @@ use mathlib.Core.Path.{◌≡◌, refl, sym, ◌∙◌}
 use mathlib.Core.Bool.{true}
 use native.Mathlib.Omega.{arith}
 use native.Mathlib.Nat.{mul-le-mul}
-use borrow.Author.Tests.{not-true, not-false}
-use borrow.Author.Rules.{rules}
 use Rattle.willow.specs.Limits.{Accepted, accepted_limits}
 use Rattle.willow.proofs.AnswerLaws.{made_as}
 use Rattle.willow.proofs.LimitLaws.{limit_laws}

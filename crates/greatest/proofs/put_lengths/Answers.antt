@@ -1,11 +1,7 @@
-use Prim.Native.Nat.{◌+◌, ◌-◌, ◌*◌, ◌≤◌}
-use mathlib.Core.Path.{◌≡◌, refl, sym, ◌∙◌}
+use Prim.Native.Nat.{◌+◌, ◌-◌, ◌≤◌}
+use mathlib.Core.Path.{refl, sym, ◌∙◌}
 use native.Mathlib.Omega.{arith}
 use lib.ListN.{length}
-use borrow.Author.Rules.{rules}
-use Rattle.willow.specs.LeastPaths.{filled, greatest}
-use Rattle.willow.specs.Packed.{accumulated}
-use Rattle.number.specs.Overwriting.{overwrite}
 use Rattle.greatest.proofs.GreatestLaws.{lengths_start, lengths_on, lengths_end}
 use Rattle.greatest.proofs.put_lengths.Goals as goal
 

@@ -1,13 +1,10 @@
 -- What is left to write, written from where the last sum ended, gives the whole table; no sum passes MPL.
 use Prim.Native.Nat.{◌+◌, ◌-◌, ◌*◌, ◌≤◌}
-use mathlib.Core.Path.{◌≡◌, refl, sym, ◌∙◌}
-use native.Mathlib.Omega.{arith}
+use mathlib.Core.Path.{◌≡◌}
 use lib.ListN.{length}
-use borrow.Author.Rules.{rules}
 use Rattle.willow.specs.LeastPaths.{filled, greatest}
 use Rattle.willow.specs.Packed.{accumulated}
 use Rattle.number.specs.Overwriting.{overwrite}
-use Rattle.greatest.proofs.GreatestLaws.{lengths_start, lengths_on, lengths_end}
 use Rattle.greatest.proofs.put_lengths.Given as goal
 
 abbrev pub invariant-loop-left : goal.invariant-loop-left

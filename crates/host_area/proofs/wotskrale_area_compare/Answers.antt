@@ -4,7 +4,6 @@ use Rattle.convention.specs.Exports.{given}
 use Rattle.willow.specs.Orders.{order_number}
 use Rattle.kinds.proofs.KindLaws.{kinds_told}
 use Rattle.area_kinds.specs.AreaKinds.{areas_read}
-use borrow.Author.Rules.{rules}
 use Rattle.host_area.proofs.wotskrale_area_compare.Goals as goal
 
 pub returns-in-Refused : goal.returns-in-Refused

@@ -3,7 +3,6 @@ use mathlib.Core.Path.{◌∙◌, ap}
 use Rattle.convention.specs.Exports.{given, yes_number}
 use Rattle.kinds.proofs.KindLaws.{kinds_told}
 use Rattle.area_kinds.specs.AreaKinds.{area_read}
-use borrow.Author.Rules.{rules}
 use Rattle.host_area.proofs.wotskrale_area_could_be_pruned_by_triplet.Goals as goal
 
 pub returns-in-Refused : goal.returns-in-Refused

@@ -1,6 +1,5 @@
 -- Each number of an end and of subspaces is the one that its call gives.
 use Rattle.willow.specs.Ranges.{end_of}
-use borrow.Author.Rules.{rules}
 use Rattle.host_area_intersection.proofs.AnswerLaws.{parts_given}
 use Rattle.host_area_intersection.proofs.given_area.Goals as goal
 

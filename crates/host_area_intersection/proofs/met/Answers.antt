@@ -4,7 +4,6 @@ use Rattle.area_intersection.specs.declared.AreaMet.{AreaMet}
 use Rattle.area_intersection.specs.Standing.{met_outcome}
 use Rattle.host_area_intersection.specs.AreaExports.{given_area, no_area}
 use Rattle.host_area_intersection.specs.declared.AreaAnswer.{AreaAnswer}
-use borrow.Author.Rules.{rules}
 use Rattle.host_area_intersection.proofs.met.Goals as goal
 
 abbrev shown : AreaMet → AreaAnswer

@@ -3,7 +3,6 @@ use mathlib.Core.Path.{◌∙◌, ap}
 use Rattle.host_area_intersection.specs.AreaExports.{given_area}
 use Rattle.kinds.proofs.KindLaws.{kinds_told}
 use Rattle.area_kinds.specs.AreaKinds.{areas_read}
-use borrow.Author.Rules.{rules}
 use Rattle.host_area_intersection.proofs.wotskrale_area_intersection.Goals as goal
 
 pub returns-in-Refused : goal.returns-in-Refused

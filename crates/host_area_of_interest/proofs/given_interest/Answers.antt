@@ -1,7 +1,6 @@
 -- Each number of an end and of subspaces is the one that its call gives.
 use Rattle.willow.specs.Ranges.{end_of}
 use Rattle.host_area_of_interest.proofs.AnswerLaws.{parts_given}
-use borrow.Author.Rules.{rules}
 use Rattle.host_area_of_interest.proofs.given_interest.Goals as goal
 
 pub returns : goal.returns

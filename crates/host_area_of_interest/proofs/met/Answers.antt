@@ -4,7 +4,6 @@ use Rattle.area_of_interest.specs.declared.InterestMet.{InterestMet}
 use Rattle.area_of_interest.specs.Interests.{met_outcome}
 use Rattle.host_area_of_interest.specs.InterestExports.{given_interest, no_interest}
 use Rattle.host_area_of_interest.specs.declared.InterestAnswer.{InterestAnswer}
-use borrow.Author.Rules.{rules}
 use Rattle.host_area_of_interest.proofs.met.Goals as goal
 
 abbrev shown : InterestMet → InterestAnswer

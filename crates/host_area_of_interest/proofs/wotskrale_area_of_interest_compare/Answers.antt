@@ -7,7 +7,6 @@ use Rattle.convention.specs.Exports.{given}
 use Rattle.kinds.proofs.KindLaws.{kinds_told}
 use Rattle.area_kinds.specs.AreaKinds.{areas_read}
 use Rattle.host_area_of_interest.proofs.AnswerLaws.{asked_of}
-use borrow.Author.Rules.{rules}
 use Rattle.host_area_of_interest.proofs.wotskrale_area_of_interest_compare.Goals as goal
 
 pub returns-in-Refused : goal.returns-in-Refused

@@ -5,7 +5,6 @@ use Rattle.host_area_of_interest.specs.InterestExports.{given_interest}
 use Rattle.kinds.proofs.KindLaws.{kinds_told}
 use Rattle.area_kinds.specs.AreaKinds.{areas_read}
 use Rattle.host_area_of_interest.proofs.AnswerLaws.{asked_of}
-use borrow.Author.Rules.{rules}
 use Rattle.host_area_of_interest.proofs.wotskrale_area_of_interest_intersection.Goals as goal
 
 pub returns-in-Refused : goal.returns-in-Refused

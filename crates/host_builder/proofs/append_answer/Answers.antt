@@ -1,5 +1,4 @@
 -- One equation for each case of an append.
-use borrow.Author.Rules.{rules}
 use Rattle.host_builder.proofs.append_answer.Goals as goal
 
 pub returns-in-Refused : goal.returns-in-Refused

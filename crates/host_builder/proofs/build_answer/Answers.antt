@@ -1,5 +1,4 @@
 -- One equation for each case of a build.
-use borrow.Author.Rules.{rules}
 use Rattle.host_builder.proofs.build_answer.Goals as goal
 
 pub returns-in-Refused : goal.returns-in-Refused

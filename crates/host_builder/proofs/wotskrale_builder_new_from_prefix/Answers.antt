@@ -1,7 +1,6 @@
 -- The start's own equation, turned into numbers.
 use mathlib.Core.Path.{◌∙◌, ap}
 use Rattle.host_builder.specs.BuilderExports.{started_answer}
-use borrow.Author.Rules.{rules}
 use Rattle.host_builder.proofs.wotskrale_builder_new_from_prefix.Goals as goal
 
 pub returns : goal.returns

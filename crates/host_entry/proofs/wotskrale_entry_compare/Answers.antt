@@ -5,7 +5,6 @@ use Rattle.willow.specs.Orders.{order_number}
 use Rattle.willow.specs.Refusals.{value}
 use Rattle.convention.specs.Exports.{given}
 use Rattle.host_entry.proofs.MadeHeads.{on_heads}
-use borrow.Author.Rules.{rules}
 use Rattle.host_entry.proofs.wotskrale_entry_compare.Goals as goal
 
 pub returns : goal.returns

@@ -3,7 +3,6 @@ use mathlib.Core.Path.{◌∙◌, ap}
 use Rattle.willow.specs.Refusals.{value}
 use Rattle.convention.specs.Exports.{given, yes_number}
 use Rattle.host_entry.proofs.MadeHeads.{newer_heads}
-use borrow.Author.Rules.{rules}
 use Rattle.host_entry.proofs.wotskrale_entry_is_newer_than.Goals as goal
 
 pub returns : goal.returns

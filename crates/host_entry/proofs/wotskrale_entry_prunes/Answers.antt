@@ -4,7 +4,6 @@ use Rattle.willow.specs.Entries.{prunes}
 use Rattle.willow.specs.Refusals.{value}
 use Rattle.convention.specs.Exports.{given, yes_number}
 use Rattle.host_entry.proofs.MadeHeads.{on_heads}
-use borrow.Author.Rules.{rules}
 use Rattle.host_entry.proofs.wotskrale_entry_prunes.Goals as goal
 
 pub returns : goal.returns

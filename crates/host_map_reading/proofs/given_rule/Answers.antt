@@ -1,7 +1,6 @@
 -- Each number of an end and of subspaces is the one that its call gives.
 use Rattle.area_kinds.specs.AreaKinds.{parts}
 use Rattle.host_map_reading.proofs.AnswerLaws.{rule_given}
-use borrow.Author.Rules.{rules}
 use Rattle.host_map_reading.proofs.given_rule.Goals as goal
 
 pub returns : goal.returns

@@ -4,7 +4,6 @@ use Rattle.map_reading.specs.declared.RuleRead.{RuleRead}
 use Rattle.map_reading.specs.Rules.{rule_outcome}
 use Rattle.host_map_reading.specs.MapExports.{given_rule, no_rule}
 use Rattle.host_map_reading.specs.declared.RuleAnswer.{RuleAnswer}
-use borrow.Author.Rules.{rules}
 use Rattle.host_map_reading.proofs.rule_read.Goals as goal
 
 abbrev shown : RuleRead → RuleAnswer

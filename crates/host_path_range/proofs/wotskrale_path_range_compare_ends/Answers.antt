@@ -4,7 +4,6 @@ use Rattle.convention.specs.Exports.{given}
 use Rattle.willow.specs.Orders.{order_number}
 use Rattle.kinds.proofs.KindLaws.{both_asked_again}
 use Rattle.path_kinds.specs.PathKinds.{end_read}
-use borrow.Author.Rules.{rules}
 use Rattle.host_path_range.proofs.wotskrale_path_range_compare_ends.Goals as goal
 
 pub returns-in-Refused : goal.returns-in-Refused

@@ -3,7 +3,6 @@ use mathlib.Core.Path.{◌∙◌, ap}
 use Rattle.convention.specs.Exports.{given, yes_number}
 use Rattle.kinds.proofs.KindLaws.{kinds_told}
 use Rattle.path_kinds.specs.PathKinds.{end_read}
-use borrow.Author.Rules.{rules}
 use Rattle.host_path_range.proofs.wotskrale_path_range_end_above.Goals as goal
 
 pub returns-in-Refused : goal.returns-in-Refused

@@ -1,7 +1,6 @@
 -- The own equation of the call, turned into numbers.
 use mathlib.Core.Path.{◌∙◌, ap}
 use Rattle.convention.specs.Exports.{given, yes_number}
-use borrow.Author.Rules.{rules}
 use Rattle.host_path_range.proofs.wotskrale_path_range_new_closed.Goals as goal
 
 pub returns : goal.returns

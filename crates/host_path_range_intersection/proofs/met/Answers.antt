@@ -5,7 +5,6 @@ use Rattle.path_range_intersection.specs.Sides.{met_outcome}
 use Rattle.host_path_range_intersection.specs.PathRangeExports.{given_sides, no_sides}
 use Rattle.host_path_range_intersection.specs.declared.SidesAnswer.{SidesAnswer}
 use Rattle.host_path_range_intersection.proofs.AnswerLaws.{sides_given}
-use borrow.Author.Rules.{rules}
 use Rattle.host_path_range_intersection.proofs.met.Goals as goal
 
 abbrev shown : SidesMet → SidesAnswer

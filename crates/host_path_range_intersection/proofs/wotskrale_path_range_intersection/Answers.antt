@@ -3,7 +3,6 @@ use mathlib.Core.Path.{◌∙◌, ap}
 use Rattle.host_path_range_intersection.specs.PathRangeExports.{given_sides}
 use Rattle.kinds.proofs.KindLaws.{kinds_told}
 use Rattle.path_kinds.specs.PathKinds.{ranges_read}
-use borrow.Author.Rules.{rules}
 use Rattle.host_path_range_intersection.proofs.wotskrale_path_range_intersection.Goals as goal
 
 pub returns-in-Refused : goal.returns-in-Refused

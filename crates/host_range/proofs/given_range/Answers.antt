@@ -1,5 +1,4 @@
 -- One equation for each kind of end.
-use borrow.Author.Rules.{rules}
 use Rattle.host_range.proofs.given_range.Goals as goal
 
 pub returns-in-Closed : goal.returns-in-Closed

@@ -1,6 +1,5 @@
 -- Each end as it was read, the first one first.
 use Rattle.kinds.proofs.KindLaws.{end_found}
-use borrow.Author.Rules.{rules}
 use Rattle.host_range.proofs.read_ends.Goals as goal
 
 pub returns-in-Bad : goal.returns-in-Bad

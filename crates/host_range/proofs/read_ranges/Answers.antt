@@ -1,6 +1,5 @@
 -- Each range as it was read, the first one first.
 use Rattle.kinds.proofs.KindLaws.{range_found}
-use borrow.Author.Rules.{rules}
 use Rattle.host_range.proofs.read_ranges.Goals as goal
 
 pub returns-in-Bad : goal.returns-in-Bad

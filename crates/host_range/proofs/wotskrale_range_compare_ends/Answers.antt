@@ -2,7 +2,6 @@
 use mathlib.Core.Path.{◌∙◌, ap}
 use Rattle.convention.specs.Exports.{given}
 use Rattle.willow.specs.Orders.{order_number}
-use borrow.Author.Rules.{rules}
 use Rattle.host_range.proofs.wotskrale_range_compare_ends.Goals as goal
 
 pub returns-in-Bad : goal.returns-in-Bad

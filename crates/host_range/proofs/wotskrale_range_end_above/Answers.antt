@@ -2,7 +2,6 @@
 use mathlib.Core.Path.{◌∙◌, ap}
 use Rattle.convention.specs.Exports.{given, yes_number}
 use Rattle.kinds.proofs.KindLaws.{end_found}
-use borrow.Author.Rules.{rules}
 use Rattle.host_range.proofs.wotskrale_range_end_above.Goals as goal
 
 pub returns-in-Bad : goal.returns-in-Bad

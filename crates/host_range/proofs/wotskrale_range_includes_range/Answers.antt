@@ -1,7 +1,6 @@
 -- A kind is bad, or the call is made on what they stand for; either answer is turned into numbers.
 use mathlib.Core.Path.{◌∙◌, ap}
 use Rattle.convention.specs.Exports.{given, yes_number}
-use borrow.Author.Rules.{rules}
 use Rattle.host_range.proofs.wotskrale_range_includes_range.Goals as goal
 
 pub returns-in-Bad : goal.returns-in-Bad

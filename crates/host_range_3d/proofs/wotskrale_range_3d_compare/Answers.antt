@@ -4,7 +4,6 @@ use Rattle.willow.specs.Orders.{order_number}
 use Rattle.convention.specs.Exports.{given}
 use Rattle.kinds.proofs.KindLaws.{kinds_told}
 use Rattle.range_3d_kinds.specs.Range3dKinds.{ranges3d_read}
-use borrow.Author.Rules.{rules}
 use Rattle.host_range_3d.proofs.wotskrale_range_3d_compare.Goals as goal
 
 pub returns-in-Refused : goal.returns-in-Refused

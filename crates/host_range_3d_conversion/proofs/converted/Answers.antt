@@ -4,7 +4,6 @@ use Rattle.range_3d_intersection.specs.declared.Converted.{Converted}
 use Rattle.range_3d_intersection.specs.Sides3d.{converted_outcome}
 use Rattle.host_range_3d_conversion.specs.ConversionExports.{given_counts, no_range}
 use Rattle.host_range_3d_conversion.specs.declared.ConvertedAnswer.{ConvertedAnswer}
-use borrow.Author.Rules.{rules}
 use Rattle.host_range_3d_conversion.proofs.converted.Goals as goal
 
 abbrev shown : Converted → ConvertedAnswer

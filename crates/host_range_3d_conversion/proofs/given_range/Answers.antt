@@ -3,7 +3,6 @@ use mathlib.Core.Path.{◌∙◌, ap}
 use Rattle.willow.specs.Ranges.{end_kind, end_value}
 use Rattle.range_3d_intersection.specs.Sides3d.{counts_of}
 use Rattle.host_range_3d_conversion.proofs.ConversionAnswerLaws.{counts_given}
-use borrow.Author.Rules.{rules}
 use Rattle.host_range_3d_conversion.proofs.given_range.Goals as goal
 
 pub returns : goal.returns

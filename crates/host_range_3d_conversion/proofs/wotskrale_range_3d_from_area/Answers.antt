@@ -4,7 +4,6 @@ use Rattle.willow.specs.Answers.{packed_outcome, written_buffer}
 use Rattle.kinds.proofs.KindLaws.{kinds_told}
 use Rattle.area_kinds.specs.AreaKinds.{area_read}
 use Rattle.host_range_3d_conversion.specs.ConversionExports.{given_counts}
-use borrow.Author.Rules.{rules}
 use Rattle.host_range_3d_conversion.proofs.wotskrale_range_3d_from_area.Goals as goal
 
 pub returns-in-Refused : goal.returns-in-Refused

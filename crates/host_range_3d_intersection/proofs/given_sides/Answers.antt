@@ -1,7 +1,6 @@
 -- Each number of an end and of a side is the one that its call gives.
 use Rattle.range.specs.NumberRanges.{range_of}
 use Rattle.host_range_3d_intersection.proofs.SidesAnswerLaws.{sides_given}
-use borrow.Author.Rules.{rules}
 use Rattle.host_range_3d_intersection.proofs.given_sides.Goals as goal
 
 pub returns : goal.returns

@@ -4,7 +4,6 @@ use Rattle.range_3d_intersection.specs.declared.Range3dMet.{Range3dMet}
 use Rattle.range_3d_intersection.specs.Sides3d.{met_outcome}
 use Rattle.host_range_3d_intersection.specs.SidesExports.{given_sides, no_sides}
 use Rattle.host_range_3d_intersection.specs.declared.Range3dAnswer.{Range3dAnswer}
-use borrow.Author.Rules.{rules}
 use Rattle.host_range_3d_intersection.proofs.met.Goals as goal
 
 abbrev shown : Range3dMet → Range3dAnswer

@@ -3,7 +3,6 @@ use mathlib.Core.Path.{◌∙◌, ap}
 use Rattle.host_range_3d_intersection.specs.SidesExports.{given_sides}
 use Rattle.kinds.proofs.KindLaws.{kinds_told}
 use Rattle.range_3d_kinds.specs.Range3dKinds.{ranges3d_read}
-use borrow.Author.Rules.{rules}
 use Rattle.host_range_3d_intersection.proofs.wotskrale_range_3d_intersection.Goals as goal
 
 pub returns-in-Refused : goal.returns-in-Refused

@@ -1,7 +1,6 @@
 -- The call's own equation, turned into numbers.
 use mathlib.Core.Path.{◌∙◌, ap}
 use Rattle.convention.specs.Exports.{given, itself}
-use borrow.Author.Rules.{rules}
 use Rattle.host_reading.proofs.wotskrale_path_create_prefix.Goals as goal
 
 pub returns : goal.returns

@@ -2,7 +2,6 @@
 use mathlib.Core.Path.{◌∙◌, ap}
 use Rattle.convention.specs.Exports.{given}
 use Rattle.willow.specs.Orders.{order_number}
-use borrow.Author.Rules.{rules}
 use Rattle.host_relation.proofs.wotskrale_path_compare.Goals as goal
 
 pub returns : goal.returns

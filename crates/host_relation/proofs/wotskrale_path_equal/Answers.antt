@@ -1,7 +1,6 @@
 -- The call's own equation, turned into numbers.
 use mathlib.Core.Path.{◌∙◌, ap}
 use Rattle.convention.specs.Exports.{given, yes_number}
-use borrow.Author.Rules.{rules}
 use Rattle.host_relation.proofs.wotskrale_path_equal.Goals as goal
 
 pub returns : goal.returns

@@ -4,7 +4,6 @@ use Rattle.store_answers.specs.declared.Offered.{Offered}
 use Rattle.store_answers.specs.Calls.{answer_of}
 use Rattle.host_store.specs.StoreExports.{given_offer, no_offer}
 use Rattle.host_store.specs.declared.OfferAnswer.{OfferAnswer}
-use borrow.Author.Rules.{rules}
 use Rattle.host_store.proofs.offered.Goals as goal
 
 abbrev shown : Offered → OfferAnswer

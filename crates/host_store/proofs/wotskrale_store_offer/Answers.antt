@@ -2,7 +2,6 @@
 use mathlib.Core.Path.{◌∙◌, ap}
 use Rattle.host_store.specs.StoreExports.{given_offer}
 use Rattle.host_store.proofs.MadeOffers.{answer_made, leaves_made}
-use borrow.Author.Rules.{rules}
 use Rattle.host_store.proofs.wotskrale_store_offer.Goals as goal
 
 pub returns : goal.returns

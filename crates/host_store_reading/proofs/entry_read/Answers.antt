@@ -4,8 +4,6 @@ use Rattle.willow.specs.declared.Counted.{Counted}
 use Rattle.willow.specs.Answers.{counted_outcome}
 use Rattle.entry.specs.declared.Head.{Head}
 use Rattle.host_store_reading.specs.ReadingExports.{given_parts, no_entry}
-use Rattle.host_store_reading.specs.declared.EntryAnswer.{EntryAnswer}
-use borrow.Author.Rules.{rules}
 use Rattle.host_store_reading.proofs.entry_read.Goals as goal
 
 shown : (h : Head) {c k : Counted} → c ≡ k → given_parts (counted_outcome k) h ≡ given_parts (counted_outcome c) h

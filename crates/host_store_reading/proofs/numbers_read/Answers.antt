@@ -4,7 +4,6 @@ use Rattle.store_reading.specs.declared.NumbersRead.{NumbersRead}
 use Rattle.store_reading.specs.Held.{numbers_outcome}
 use Rattle.host_store_reading.specs.ReadingExports.{given_numbers, no_store}
 use Rattle.host_store_reading.specs.declared.StoreAnswer.{StoreAnswer}
-use borrow.Author.Rules.{rules}
 use Rattle.host_store_reading.proofs.numbers_read.Goals as goal
 
 abbrev shown : NumbersRead → StoreAnswer

@@ -2,7 +2,6 @@
 use mathlib.Core.Path.{◌∙◌}
 use Rattle.store_reading.specs.Held.{entry_read}
 use Rattle.host_store_reading.proofs.AnswerLaws.{entry_given}
-use borrow.Author.Rules.{rules}
 use Rattle.host_store_reading.proofs.wotskrale_store_entry.Goals as goal
 
 pub returns : goal.returns

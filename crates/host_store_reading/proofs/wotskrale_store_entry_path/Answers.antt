@@ -1,7 +1,6 @@
 -- The call's own equation, turned into numbers.
 use mathlib.Core.Path.{◌∙◌, ap}
 use Rattle.convention.specs.Exports.{given, itself}
-use borrow.Author.Rules.{rules}
 use Rattle.host_store_reading.proofs.wotskrale_store_entry_path.Goals as goal
 
 pub returns : goal.returns

@@ -2,7 +2,6 @@
 use mathlib.Core.Path.{◌∙◌}
 use Rattle.keyform.specs.Answering.{answer_text}
 use Rattle.keyline.proofs.AnswerLaws.{copied, not_copied, front_whole}
-use borrow.Author.Rules.{rules}
 use Rattle.keyline.proofs.answer.Reads as reads
 use Rattle.keyline.proofs.answer.Lts as lts
 use Rattle.keyline.proofs.inner.answer_any.Reads as answer-any-reads

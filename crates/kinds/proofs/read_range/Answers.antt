@@ -2,7 +2,6 @@
 use mathlib.Core.Path.{sym, ◌∙◌, ap}
 use Rattle.kinds.specs.Kinds.{end_read}
 use Rattle.kinds.proofs.KindLaws.{range_from_end}
-use borrow.Author.Rules.{rules}
 use Rattle.kinds.proofs.read_range.Goals as goal
 
 pub returns-in-Bad : goal.returns-in-Bad

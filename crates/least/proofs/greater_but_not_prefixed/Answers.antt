@@ -7,7 +7,6 @@ use Rattle.lent_path.proofs.LentLaws.{asked}
 use Rattle.least_writing.specs.Written.{path_or}
 use Rattle.least.specs.Places.{next_greater_of}
 use Rattle.least_writing.proofs.CallLaws.{passed_bounded}
-use borrow.Author.Rules.{rules}
 use Rattle.least.proofs.greater_but_not_prefixed.Goals as goal
 
 pub search-p-requires : goal.search-p-requires

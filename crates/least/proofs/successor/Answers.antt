@@ -6,7 +6,6 @@ use Rattle.lent_path.proofs.TestLaws.{one_passed, one_refused, readable}
 use Rattle.lent_path.proofs.LentLaws.{asked}
 use Rattle.least.specs.Places.{successor_of}
 use Rattle.least_writing.proofs.CallLaws.{passed_bounded}
-use borrow.Author.Rules.{rules}
 use Rattle.least.proofs.successor.Goals as goal
 
 pub write_successor-requires : goal.write_successor-requires

@@ -5,7 +5,6 @@ use native.Mathlib.Omega.{arith}
 use Rattle.willow.specs.Packed.{packed_count}
 use Rattle.packed.proofs.FormLaws.{formed_long}
 use Rattle.lent_path.proofs.TestLaws.{lent_malformed, lent_counted}
-use borrow.Author.Rules.{rules}
 use Rattle.lent_path.proofs.is_lent.Goals as goal
 
 pub read_u64-requires : goal.read_u64-requires

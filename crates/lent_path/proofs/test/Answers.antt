@@ -1,7 +1,6 @@
 -- One law for each way out: 1, 5, or nothing to refuse.
 use mathlib.Core.Path.{sym, ◌∙◌}
 use Rattle.lent_path.proofs.TestLaws.{one_limits, one_path, one_fine}
-use borrow.Author.Rules.{rules}
 use Rattle.lent_path.proofs.test.Goals as goal
 
 pub returns-then-is_lent : goal.returns-then-is_lent

@@ -2,7 +2,6 @@
 use mathlib.Core.Path.{sym, ◌∙◌}
 use borrow.Author.Tests.{le-leb, lt-leb}
 use Rattle.lent_path.proofs.TestLaws.{component_limits, component_long, component_fine}
-use borrow.Author.Rules.{rules}
 use Rattle.lent_path.proofs.test_component.Goals as goal
 
 pub returns-then-c-limits : goal.returns-then-c-limits

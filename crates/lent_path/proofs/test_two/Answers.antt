@@ -1,7 +1,6 @@
 -- One law for each way out: 1, 5 for either path, or nothing to refuse.
 use mathlib.Core.Path.{sym, ◌∙◌}
 use Rattle.lent_path.proofs.TestLaws.{two_limits, two_first, two_second, two_fine}
-use borrow.Author.Rules.{rules}
 use Rattle.lent_path.proofs.test_two.Goals as goal
 
 pub returns-then-is_lent-2 : goal.returns-then-is_lent-2

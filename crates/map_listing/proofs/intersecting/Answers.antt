@@ -11,7 +11,6 @@ use Rattle.map_form.specs.Maps.{sizes_in}
 use Rattle.map_form.specs.MapTest.{is_map}
 use Rattle.map_form.proofs.MapTestLaws.{map_passed}
 use Rattle.map_listing.proofs.ListCallLaws.{listing_bad, listing_kind, listing_told, listed_as}
-use borrow.Author.Rules.{rules}
 use Rattle.map_listing.proofs.intersecting.Goals as goal
 use Rattle.map_listing.proofs.intersecting.Goals.{After-read_u64-then-is_map-2, Start, Then-is_map}
 

@@ -3,7 +3,6 @@ use mathlib.Core.Path.{sym, ◌∙◌}
 use Rattle.willow.proofs.AnswerLaws.{written_as}
 use Rattle.willow.proofs.LimitLaws.{limit_laws}
 use Rattle.map_law.proofs.FreshLaws.{limits_bad, capacity_bad, fresh_fine}
-use borrow.Author.Rules.{rules}
 use Rattle.map_making.proofs.fresh.Goals as goal
 
 pub make-requires : goal.make-requires

@@ -7,7 +7,6 @@ use native.Mathlib.Omega.{arith}
 use Rattle.map_form.specs.Maps.{count_in}
 use Rattle.map_form.specs.MapTest.{is_map}
 use Rattle.map_reading.proofs.RuleCallLaws.{rule_bad, rule_none, rule_there}
-use borrow.Author.Rules.{rules}
 use Rattle.map_reading.proofs.rule.Goals as goal
 use Rattle.map_reading.proofs.rule.Goals.{Then-is_map, Then-is_there}
 

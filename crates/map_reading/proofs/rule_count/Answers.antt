@@ -3,7 +3,6 @@ use mathlib.Core.Path.{sym, ◌∙◌}
 use native.Mathlib.Omega.{arith}
 use Rattle.map_form.proofs.MapTestLaws.{map_passed}
 use Rattle.map_reading.proofs.RuleCallLaws.{count_bad, count_read}
-use borrow.Author.Rules.{rules}
 use Rattle.map_reading.proofs.rule_count.Goals as goal
 
 pub read_u64-requires : goal.read_u64-requires

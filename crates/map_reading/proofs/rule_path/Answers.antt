@@ -2,7 +2,6 @@
 -- empty.
 use Prim.Native.Nat.{◌<◌}
 use mathlib.Core.Path.{◌≡◌, sym, ◌∙◌, ap}
-use mathlib.Core.Logic.{inl, inr}
 use mathlib.Core.Bool.{true}
 use borrow.Author.Tests.{ltb-true}
 use native.Mathlib.Omega.{arith}
@@ -11,7 +10,6 @@ use Rattle.reading.specs.Reading.{bytes_or}
 use Rattle.map_form.specs.Maps.{count_in}
 use Rattle.map_form.specs.MapTest.{is_map}
 use Rattle.map_reading.proofs.RuleCallLaws.{path_bad, path_none, path_there}
-use borrow.Author.Rules.{rules}
 use Rattle.map_reading.proofs.rule_path.Goals as goal
 use Rattle.map_reading.proofs.rule_path.Goals.{then-is_map+else-is_there, else-is_map}
 use Rattle.map_reading.proofs.rule_path.Goals.{Then-is_map, Then-is_there}
@@ -35,6 +33,6 @@ returns-then-is_there c =
 
 pub returns : goal.returns
 returns c = elim c.if-is_map.branch [
-    then-is_map+else-is_there w ↦ ap bytes_or (path_none _ (sym c.is_map.ensures ∙ w.if-is_map.true) _ (sym w.is_there.ensures ∙ w.if-is_there.false))
+  | then-is_map+else-is_there w ↦ ap bytes_or (path_none _ (sym c.is_map.ensures ∙ w.if-is_map.true) _ (sym w.is_there.ensures ∙ w.if-is_there.false))
   | else-is_map w ↦ ap bytes_or (path_bad _ (sym c.is_map.ensures ∙ w.if-is_map.false) _)
 ]

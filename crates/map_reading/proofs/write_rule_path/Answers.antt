@@ -9,7 +9,6 @@ use Rattle.willow.proofs.NumberLaws.{bytes_by_index}
 use Rattle.map_form.specs.Maps.{count_in}
 use Rattle.map_form.specs.MapTest.{is_map}
 use Rattle.map_reading.proofs.RuleCallLaws.{path_bad, path_none, path_there}
-use borrow.Author.Rules.{rules}
 use Rattle.map_reading.proofs.write_rule_path.Goals as goal
 use Rattle.map_reading.proofs.write_rule_path.Goals.{Then-is_map, Then-is_there}
 

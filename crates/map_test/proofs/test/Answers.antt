@@ -1,6 +1,5 @@
 -- Refused exactly if the test of a map fails.
 use mathlib.Core.Path.{sym, ◌∙◌}
-use borrow.Author.Rules.{rules}
 use Rattle.map_test.proofs.test.Goals as goal
 
 pub returns-then-is_map : goal.returns-then-is_map

@@ -1,11 +1,7 @@
 -- The first i bytes agree, and with each turn one more; at the end all do.
 use Prim.Native.Nat.{◌-◌, ◌≤◌}
-use mathlib.Core.Path.{◌≡◌, refl, sym, ◌∙◌}
-use native.Mathlib.Omega.{arith}
-use lib.ListN.{length, take, length-set}
-use lib.Seq.{take_all}
-use borrow.Author.Rules.{rules}
-use Rattle.number.proofs.LoopLaws.{copy_turn}
+use mathlib.Core.Path.{◌≡◌}
+use lib.ListN.{length, take}
 use Rattle.number.proofs.copy.Given as goal
 
 abbrev pub invariant-loop-i : goal.invariant-loop-i

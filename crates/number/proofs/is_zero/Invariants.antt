@@ -1,12 +1,9 @@
 -- What is known so far, together with the test of the bytes from i on, is the test of all.
-use Prim.Native.Nat.{◌+◌, ◌-◌, ◌≤◌}
-use mathlib.Core.Path.{◌≡◌, refl, sym, ◌∙◌, ap}
+use Prim.Native.Nat.{◌-◌, ◌≤◌}
+use mathlib.Core.Path.{◌≡◌}
 use mathlib.Core.Bool.{◌&&◌}
-use native.Mathlib.Omega.{arith}
 use lib.ListN.{length, drop}
-use borrow.Author.Rules.{rules}
 use Rattle.number.specs.Overwriting.{all_zero}
-use Rattle.number.proofs.LoopLaws.{test_turn, test_end}
 use Rattle.number.proofs.is_zero.Given as goal
 
 abbrev pub invariant-loop-i : goal.invariant-loop-i

@@ -1,9 +1,6 @@
-use Prim.Native.Nat.{◌≤◌}
 use mathlib.Core.Path.{◌≡◌, refl, sym, ◌∙◌}
 use native.Mathlib.Omega.{arith}
-use lib.ListN.{length, take, drop, length-set}
-use borrow.Author.Rules.{rules}
-use Rattle.number.specs.Overwriting.{overwrite}
+use lib.ListN.{length-set}
 use Rattle.number.proofs.OverwritingLaws.{overwrite_nil}
 use Rattle.number.proofs.LoopLaws.{up_turn}
 use Rattle.number.proofs.move_up.Goals as goal

@@ -1,12 +1,8 @@
 -- What is left to move from here gives what was to be moved at first. A store lies behind all that is still to be read.
 use Prim.Native.Nat.{◌≤◌}
-use mathlib.Core.Path.{◌≡◌, refl, sym, ◌∙◌}
-use native.Mathlib.Omega.{arith}
-use lib.ListN.{length, take, drop, length-set}
-use borrow.Author.Rules.{rules}
+use mathlib.Core.Path.{◌≡◌}
+use lib.ListN.{length, take, drop}
 use Rattle.number.specs.Overwriting.{overwrite}
-use Rattle.number.proofs.OverwritingLaws.{overwrite_nil}
-use Rattle.number.proofs.LoopLaws.{up_turn}
 use Rattle.number.proofs.move_up.Given as goal
 
 abbrev pub invariant-loop-left : goal.invariant-loop-left

@@ -4,7 +4,6 @@ use mathlib.Core.Path.{◌≡◌}
 use mathlib.Core.List.{List}
 use native.Mathlib.Omega.{arith}
 use lib.ListN.{length}
-use borrow.Author.Rules.{rules}
 use Rattle.willow.specs.Numbers.{number_at}
 use Rattle.willow.proofs.NumberLaws.{number_by_index}
 use Rattle.number.specs.Overwriting.{quad_at}

@@ -2,7 +2,6 @@
 use native.Mathlib.Omega.{arith}
 use native.Mathlib.Numerals.{towards_suc}
 use lib.ListN.{length-set}
-use borrow.Author.Rules.{rules}
 use Rattle.willow.specs.Numbers.{le}
 use Rattle.number.proofs.OverwritingLaws.{stores_overwrite}
 use Rattle.number.proofs.write_u64.Goals as goal

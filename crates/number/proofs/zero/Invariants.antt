@@ -1,12 +1,8 @@
 -- What is left to clear from here gives what was to be cleared at first.
 use Prim.Native.Nat.{◌+◌, ◌-◌, ◌≤◌}
-use mathlib.Core.Path.{◌≡◌, refl, sym, ◌∙◌}
-use native.Mathlib.Omega.{arith}
-use lib.ListN.{length, length-set}
-use borrow.Author.Rules.{rules}
+use mathlib.Core.Path.{◌≡◌}
+use lib.ListN.{length}
 use Rattle.number.specs.Overwriting.{overwrite, zeros}
-use Rattle.number.proofs.OverwritingLaws.{overwrite_nil}
-use Rattle.number.proofs.LoopLaws.{fill_turn}
 use Rattle.number.proofs.zero.Given as goal
 
 abbrev pub invariant-loop-j : goal.invariant-loop-j

@@ -2,7 +2,6 @@
 use mathlib.Core.Path.{◌∙◌, ap}
 use Rattle.willow.specs.Refusals.{value}
 use Rattle.path_bounds.proofs.LentPathLaws.{paths_passed, paths_refused, paths_asked, end_path_readable}
-use borrow.Author.Rules.{rules}
 use Rattle.path_end.proofs.compare_end.Goals as goal
 
 pub order_end-requires : goal.order_end-requires

@@ -2,7 +2,6 @@
 use mathlib.Core.Path.{◌∙◌, ap}
 use Rattle.willow.specs.Refusals.{value}
 use Rattle.path_bounds.proofs.LentPathLaws.{paths_passed, paths_refused, paths_asked, ends_readable}
-use borrow.Author.Rules.{rules}
 use Rattle.path_end.proofs.compare_ends.Goals as goal
 
 pub order_ends-requires : goal.order_ends-requires

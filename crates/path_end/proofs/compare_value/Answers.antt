@@ -4,7 +4,6 @@ use mathlib.Core.Path.{◌∙◌, ap}
 use Rattle.willow.specs.Refusals.{value}
 use Rattle.path_bounds.proofs.LentPathLaws.{paths_passed, paths_refused, paths_asked, end_path_readable, closed_readable}
 use Rattle.path_end.proofs.EndValueLaws.{against_closed, against_open}
-use borrow.Author.Rules.{rules}
 use Rattle.path_end.proofs.compare_value.Goals as goal
 
 pub compare-requires : goal.compare-requires

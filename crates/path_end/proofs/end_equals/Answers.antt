@@ -10,7 +10,6 @@ use Rattle.range_end.specs.EndValues.{is_end_value}
 use Rattle.path_bounds.specs.LentRanges.{path_end_of}
 use Rattle.path_bounds.proofs.LentPathLaws.{paths_passed, paths_refused, paths_asked, end_path_readable}
 use Rattle.path_end.proofs.EndValueLaws.{is_end_by}
-use borrow.Author.Rules.{rules}
 use Rattle.path_end.proofs.end_equals.Goals as goal
 use Rattle.path_end.proofs.end_equals.Goals.{After-order_end}
 

@@ -2,7 +2,6 @@
 use mathlib.Core.Path.{◌∙◌, ap}
 use Rattle.willow.specs.Refusals.{value}
 use Rattle.path_bounds.proofs.LentPathLaws.{paths_passed, paths_refused, paths_asked, end_path_readable}
-use borrow.Author.Rules.{rules}
 use Rattle.path_end.proofs.gt_val.Goals as goal
 
 pub is_above-requires : goal.is_above-requires

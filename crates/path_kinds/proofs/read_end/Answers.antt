@@ -1,7 +1,6 @@
 -- The limits are tested, and then the kind is read.
 use mathlib.Core.Path.{sym, ◌∙◌}
 use Rattle.kinds.proofs.KindLaws.{kinds_fine, kinds_limits}
-use borrow.Author.Rules.{rules}
 use Rattle.path_kinds.proofs.read_end.Goals as goal
 
 pub returns-then-limits_accepted : goal.returns-then-limits_accepted

@@ -3,7 +3,6 @@ use mathlib.Core.Path.{◌∙◌}
 use Rattle.kinds.proofs.KindLaws.{kinds_told}
 use Rattle.path_kinds.specs.PathKinds.{end_read}
 use Rattle.path_kinds.proofs.PathKindLaws.{from_start_lem}
-use borrow.Author.Rules.{rules}
 use Rattle.path_kinds.proofs.read_range.Goals as goal
 
 pub returns-in-Refused : goal.returns-in-Refused

@@ -2,7 +2,6 @@
 use mathlib.Core.Path.{refl, sym, ◌∙◌, ap}
 use Rattle.kinds.proofs.KindLaws.{both_asked_again}
 use Rattle.path_kinds.specs.PathKinds.{range_read}
-use borrow.Author.Rules.{rules}
 use Rattle.path_kinds.proofs.read_ranges.Goals as goal
 
 pub returns-in-Refused : goal.returns-in-Refused

@@ -2,7 +2,6 @@
 use mathlib.Core.Path.{◌∙◌, ap}
 use Rattle.willow.specs.Refusals.{value}
 use Rattle.path_bounds.proofs.LentPathLaws.{paths_passed, paths_refused, paths_asked, ranges_readable}
-use borrow.Author.Rules.{rules}
 use Rattle.path_range.proofs.compare.Goals as goal
 
 pub compare-requires : goal.compare-requires

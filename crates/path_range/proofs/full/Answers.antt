@@ -1,6 +1,5 @@
 -- Of no components, every buffer holds the empty path.
 use Rattle.willow.specs.Answers.{path_in}
-use borrow.Author.Rules.{rules}
 use Rattle.path_range.proofs.full.Goals as goal
 
 pub returns : goal.returns

@@ -1,5 +1,4 @@
 -- One equation for each kind of end.
-use borrow.Author.Rules.{rules}
 use Rattle.path_range.proofs.get_end.Goals as goal
 
 pub returns-in-Closed : goal.returns-in-Closed

@@ -10,7 +10,6 @@ use Rattle.willow.specs.Ranges.{new_closed}
 use Rattle.willow.specs.Refusals.{value}
 use Rattle.lent_path.proofs.TestLaws.{two_passed, two_refused, two_asked, readable_two}
 use Rattle.path_range.proofs.PathRangeLaws.{closed_by}
-use borrow.Author.Rules.{rules}
 use Rattle.path_range.proofs.new_closed.Goals as goal
 use Rattle.path_range.proofs.new_closed.Goals.{After-compare}
 

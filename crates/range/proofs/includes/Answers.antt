@@ -3,7 +3,6 @@ use mathlib.Core.Path.{sym, ◌∙◌, ap}
 use Rattle.willow.specs.Refusals.{value}
 use Rattle.range.specs.NumberRanges.{range_of}
 use Rattle.range.proofs.NumberRangeLaws.{before_start, from_start_lem}
-use borrow.Author.Rules.{rules}
 use Rattle.range.proofs.includes.Goals as goal
 
 pub returns-then-val-range : goal.returns-then-val-range

@@ -4,7 +4,6 @@ use Rattle.willow.specs.declared.Order.TheVariants.{Less, Equal, Greater}
 use Rattle.willow.specs.Refusals.{value}
 use Rattle.range.specs.NumberRanges.{range_of}
 use Rattle.range.proofs.NumberRangeLaws.{starts_before, included_by}
-use borrow.Author.Rules.{rules}
 use Rattle.range.proofs.includes_range.Goals as goal
 
 pub returns-then-other-range : goal.returns-then-other-range

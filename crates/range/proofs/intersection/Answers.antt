@@ -4,7 +4,6 @@ use mathlib.Core.Bool.{true, false}
 use Rattle.willow.specs.Ranges.{end_of}
 use Rattle.range.specs.NumberRanges.{range_of, range_or}
 use Rattle.range.proofs.NumberRangeLaws.{met_by_lem}
-use borrow.Author.Rules.{rules}
 use Rattle.range.proofs.intersection.Goals as goal
 
 pub returns-then-is_above : goal.returns-then-is_above

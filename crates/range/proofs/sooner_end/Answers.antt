@@ -3,7 +3,6 @@ use mathlib.Core.Path.{sym, ◌∙◌}
 use Rattle.willow.specs.declared.Order.TheVariants.{Less, Equal, Greater}
 use Rattle.willow.specs.Ranges.{end_of}
 use Rattle.range.proofs.NumberRangeLaws.{sooner_by}
-use borrow.Author.Rules.{rules}
 use Rattle.range.proofs.sooner_end.Goals as goal
 
 pub returns-in-Less : goal.returns-in-Less

@@ -1,6 +1,5 @@
 -- The three ranges are full, whatever buffers stand beside them.
 use Rattle.range_3d.proofs.FullLaws.{full_made}
-use borrow.Author.Rules.{rules}
 use Rattle.range_3d.proofs.new_full.Goals as goal
 
 pub returns : goal.returns

@@ -1,7 +1,6 @@
 -- The answer of the next greater path decides: refused alike, open, or closed at the path whose count is read back.
 use Rattle.willow.proofs.NumberLaws.{bytes_by_index}
 use Rattle.range_3d_intersection.proofs.ConversionLaws.{convert_refused, convert_open, convert_closed, count_there}
-use borrow.Author.Rules.{rules}
 use Rattle.range_3d_intersection.proofs.from_area.Goals as goal
 
 pub read_u64-requires : goal.read_u64-requires

@@ -1,6 +1,5 @@
 -- Each end has its count.
 use Rattle.range_3d_kinds.proofs.Range3dKindLaws.{closed_count}
-use borrow.Author.Rules.{rules}
 use Rattle.range_3d_kinds.proofs.counted_end.Goals as goal
 
 pub returns-in-Closed : goal.returns-in-Closed

@@ -6,7 +6,6 @@ use Rattle.kinds.specs.Kinds.{range_read}
 use Rattle.kinds.proofs.KindLaws.{range_found}
 use Rattle.range_3d_kinds.specs.Range3dKinds.{parts3d}
 use Rattle.range_3d_kinds.proofs.Range3dKindLaws.{numbers_read_lem}
-use borrow.Author.Rules.{rules}
 use Rattle.range_3d_kinds.proofs.read_numbers.Goals as goal
 
 pub returns-in-Bad : goal.returns-in-Bad

@@ -2,7 +2,6 @@
 use mathlib.Core.Path.{sym, ◌∙◌, ap}
 use Rattle.path_kinds.specs.PathKinds.{range_read}
 use Rattle.range_3d_kinds.proofs.Range3dKindLaws.{paths_read}
-use borrow.Author.Rules.{rules}
 use Rattle.range_3d_kinds.proofs.read_range_3d.Goals as goal
 
 pub returns-in-Refused : goal.returns-in-Refused

@@ -2,7 +2,6 @@
 use mathlib.Core.Path.{refl, sym, ◌∙◌, ap}
 use Rattle.kinds.proofs.KindLaws.{both_asked_again}
 use Rattle.range_3d_kinds.specs.Range3dKinds.{range3d_read}
-use borrow.Author.Rules.{rules}
 use Rattle.range_3d_kinds.proofs.read_ranges_3d.Goals as goal
 
 pub returns-in-Refused : goal.returns-in-Refused

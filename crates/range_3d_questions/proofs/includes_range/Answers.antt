@@ -1,7 +1,6 @@
 -- The test refuses, and the question is refused alike; or it passes, and the inner function's answer is given.
 use mathlib.Core.Path.{◌∙◌}
 use Rattle.path_bounds.proofs.LentPathLaws.{paths_passed, paths_refused, paths_asked, ranges_readable}
-use borrow.Author.Rules.{rules}
 use Rattle.range_3d_questions.proofs.includes_range.Goals as goal
 
 pub includes_range-requires : goal.includes_range-requires

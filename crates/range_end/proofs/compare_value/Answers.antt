@@ -1,7 +1,6 @@
 -- A closed end is compared as its number; an open one is above every value.
 use mathlib.Core.Path.{ap}
 use Rattle.willow.specs.Refusals.{value}
-use borrow.Author.Rules.{rules}
 use Rattle.range_end.proofs.compare_value.Goals as goal
 
 pub returns-in-Closed : goal.returns-in-Closed

@@ -1,5 +1,4 @@
 -- A closed end is compared as its number; an open one equals none.
-use borrow.Author.Rules.{rules}
 use Rattle.range_end.proofs.NumberTests.{equal_test}
 use Rattle.range_end.proofs.end_equals.Goals as goal
 

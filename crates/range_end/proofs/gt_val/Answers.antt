@@ -1,7 +1,6 @@
 -- The test, as an answer.
 use mathlib.Core.Path.{◌∙◌, ap}
 use Rattle.willow.specs.Refusals.{value}
-use borrow.Author.Rules.{rules}
 use Rattle.range_end.proofs.gt_val.Goals as goal
 
 pub returns : goal.returns

@@ -4,7 +4,6 @@ use Rattle.lent_path.proofs.TestLaws.{one_passed, one_refused, readable}
 use Rattle.lent_path.proofs.LentLaws.{component_there}
 use Rattle.reading.proofs.QuestionLaws.{component_asked, component_none}
 use Rattle.reading.specs.Reading.{bytes_or, component_of}
-use borrow.Author.Rules.{rules}
 use Rattle.reading.proofs.component.Goals as goal
 
 pub component-requires : goal.component-requires

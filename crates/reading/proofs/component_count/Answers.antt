@@ -2,7 +2,6 @@
 use Rattle.lent_path.proofs.TestLaws.{one_passed, one_refused}
 use Rattle.reading.proofs.QuestionLaws.{count_asked}
 use Rattle.reading.specs.Reading.{count_of}
-use borrow.Author.Rules.{rules}
 use Rattle.reading.proofs.component_count.Goals as goal
 
 pub returns-in-Refused : goal.returns-in-Refused

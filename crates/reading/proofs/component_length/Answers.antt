@@ -3,7 +3,6 @@ use Rattle.lent_path.proofs.TestLaws.{one_passed, one_refused, readable}
 use Rattle.lent_path.proofs.LentLaws.{component_there}
 use Rattle.reading.proofs.QuestionLaws.{component_length_asked, component_length_none}
 use Rattle.reading.specs.Reading.{component_length_of}
-use borrow.Author.Rules.{rules}
 use Rattle.reading.proofs.component_length.Goals as goal
 
 pub component-requires : goal.component-requires

@@ -2,7 +2,6 @@
 use Rattle.lent_path.proofs.TestLaws.{one_passed, one_refused}
 use Rattle.reading.proofs.QuestionLaws.{prefix_count_asked, prefix_count_none}
 use Rattle.reading.specs.Reading.{prefix_count_of}
-use borrow.Author.Rules.{rules}
 use Rattle.reading.proofs.create_prefix.Goals as goal
 
 pub returns-in-Refused : goal.returns-in-Refused

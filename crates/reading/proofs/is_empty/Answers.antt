@@ -3,7 +3,6 @@ use Rattle.lent_path.proofs.TestLaws.{one_passed, one_refused}
 use borrow.Author.Tests.{eq-eqb, ne_eqb}
 use Rattle.reading.proofs.QuestionLaws.{empty_asked}
 use Rattle.reading.specs.Reading.{emptiness_of}
-use borrow.Author.Rules.{rules}
 use Rattle.reading.proofs.is_empty.Goals as goal
 
 pub returns-in-Refused : goal.returns-in-Refused

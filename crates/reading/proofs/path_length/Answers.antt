@@ -2,7 +2,6 @@
 use Rattle.lent_path.proofs.TestLaws.{one_passed, one_refused, readable}
 use Rattle.reading.proofs.QuestionLaws.{length_asked}
 use Rattle.reading.specs.Reading.{length_of}
-use borrow.Author.Rules.{rules}
 use Rattle.reading.proofs.path_length.Goals as goal
 
 pub path_length-requires : goal.path_length-requires

@@ -3,7 +3,6 @@ use Rattle.lent_path.proofs.TestLaws.{one_passed, one_refused, readable}
 use Rattle.lent_path.proofs.LentLaws.{readable_prefix}
 use Rattle.reading.proofs.QuestionLaws.{prefix_length_asked, prefix_length_none}
 use Rattle.reading.specs.Reading.{prefix_length_of}
-use borrow.Author.Rules.{rules}
 use Rattle.reading.proofs.path_length_of_prefix.Goals as goal
 
 pub path_length-requires : goal.path_length-requires

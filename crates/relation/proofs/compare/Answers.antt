@@ -3,7 +3,6 @@ use mathlib.Core.Path.{◌∙◌, ap}
 use Rattle.lent_path.proofs.TestLaws.{two_passed, two_refused, two_asked, readable_two}
 use Rattle.willow.specs.Refusals.{value}
 use Rattle.relation.specs.Relation.{order_of}
-use borrow.Author.Rules.{rules}
 use Rattle.relation.proofs.compare.Goals as goal
 
 pub compare-requires : goal.compare-requires

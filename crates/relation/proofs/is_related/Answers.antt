@@ -3,7 +3,6 @@ use mathlib.Core.Path.{sym, ◌∙◌, ap}
 use Rattle.lent_path.proofs.TestLaws.{two_passed, two_refused, two_asked, readable_two}
 use Rattle.willow.specs.Refusals.{value}
 use Rattle.relation.specs.Relation.{relatedness_of}
-use borrow.Author.Rules.{rules}
 use Rattle.relation.proofs.is_related.Goals as goal
 
 pub is_related-requires : goal.is_related-requires

@@ -3,7 +3,6 @@ use mathlib.Core.Path.{◌∙◌, ap}
 use Rattle.lent_path.proofs.TestLaws.{two_passed, two_refused, two_asked, readable_two}
 use Rattle.willow.specs.Refusals.{value}
 use Rattle.relation.specs.Relation.{common_count_of}
-use borrow.Author.Rules.{rules}
 use Rattle.relation.proofs.longest_common_prefix.Goals as goal
 
 pub common-requires : goal.common-requires

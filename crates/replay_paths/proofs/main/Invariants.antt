@@ -1,5 +1,4 @@
 -- The count of turns falls.
-use borrow.Author.Rules.{rules}
 use Rattle.replay_paths.proofs.main.Given as goal
 
 abbrev pub invariant-loop-turns : goal.invariant-loop-turns

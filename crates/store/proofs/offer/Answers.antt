@@ -14,7 +14,6 @@ use Rattle.store_form.specs.StoreTest.{is_store}
 use Rattle.store_form.proofs.TestedLaws.{known}
 use Rattle.store_answers.specs.Calls.{offer_of}
 use Rattle.store.proofs.OfferLaws.{not_a_store, wrong_namespace_lem, path_refused, as_entry}
-use borrow.Author.Rules.{rules}
 use Rattle.store.proofs.offer.Goals as goal
 
 pub read_u64-requires : goal.read_u64-requires

@@ -4,7 +4,6 @@ use Rattle.willow.specs.Store.{Sizes}
 use Rattle.willow.proofs.AnswerLaws.{written_as}
 use Rattle.willow.proofs.LimitLaws.{limit_laws}
 use Rattle.store_making.proofs.FreshLaws.{limits_bad, capacity_bad, fresh_fine}
-use borrow.Author.Rules.{rules}
 use Rattle.store_making.proofs.fresh.Goals as goal
 use Rattle.store_making.proofs.fresh.Goals.{Start}
 

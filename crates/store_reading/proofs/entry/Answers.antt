@@ -14,7 +14,6 @@ use Rattle.store_form.specs.StoreTest.{is_store}
 use Rattle.willow.specs.Answers.{counted_outcome}
 use Rattle.store_reading.specs.Held.{components_of, entry_read, head_or, no_entry}
 use Rattle.store_reading.proofs.ReadCallLaws.{entry_bad, entry_none, entry_there}
-use borrow.Author.Rules.{rules}
 use Rattle.store_reading.proofs.entry.Goals as goal
 use Rattle.store_reading.proofs.entry.Goals.{After-shared_slice_known-1, Else-is_held, Else-is_store, Then-is_held, Then-is_store}
 

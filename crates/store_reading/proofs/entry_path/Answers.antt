@@ -1,6 +1,5 @@
 -- The part that is cut out is the packed form of entry i's path; else there is none, or 2, and the part is empty.
 use mathlib.Core.Path.{◌≡◌, sym, ◌∙◌, ap}
-use mathlib.Core.Logic.{inl, inr}
 use mathlib.Core.Bool.{true}
 use native.Mathlib.Omega.{arith}
 use lib.ListN.{get_or}
@@ -16,7 +15,6 @@ use Rattle.store_form.specs.StoreTest.{is_store}
 use Rattle.reading.specs.Reading.{bytes_or}
 use Rattle.store_reading.specs.Held.{entry_read, no_entry, packed_of}
 use Rattle.store_reading.proofs.ReadCallLaws.{entry_bad, entry_none, entry_there}
-use borrow.Author.Rules.{rules}
 use Rattle.store_reading.proofs.entry_path.Goals as goal
 use Rattle.store_reading.proofs.entry_path.Goals.{then-is_store+else-is_held, else-is_store}
 use Rattle.store_reading.proofs.entry_path.Goals.{After-shared_slice_known-1, Then-is_held, Then-is_store}
@@ -47,6 +45,6 @@ returns-then-is_held c = c.path.ensures ∙ ap part_of (there (goal.at.returns-t
 
 pub returns : goal.returns
 returns c = elim c.if-is_store.branch [
-    then-is_store+else-is_held w ↦ ap part_of (entry_none _ (sym c.is_store.ensures ∙ w.if-is_store.true) (bytes_by_index c.args.sheet.now (λ i. (c.shared_slice_known-1.given i).fits)) _ (sym w.is_held.ensures ∙ w.if-is_held.false))
+  | then-is_store+else-is_held w ↦ ap part_of (entry_none _ (sym c.is_store.ensures ∙ w.if-is_store.true) (bytes_by_index c.args.sheet.now (λ i. (c.shared_slice_known-1.given i).fits)) _ (sym w.is_held.ensures ∙ w.if-is_held.false))
   | else-is_store w ↦ ap part_of (entry_bad _ (sym c.is_store.ensures ∙ w.if-is_store.false) _)
 ]

@@ -1,7 +1,6 @@
 -- The numbers of a store that passed, or 2.
 use mathlib.Core.Path.{sym, ◌∙◌}
 use Rattle.store_reading.proofs.ReadCallLaws.{numbers_bad, numbers_there}
-use borrow.Author.Rules.{rules}
 use Rattle.store_reading.proofs.numbers.Goals as goal
 
 pub numbers-requires : goal.numbers-requires

@@ -14,7 +14,6 @@ use Rattle.store_form.specs.Stores.{count_in, state_in}
 use Rattle.store_form.specs.StoreTest.{is_store}
 use Rattle.store_reading.specs.Held.{entry_read, no_entry, packed_of}
 use Rattle.store_reading.proofs.ReadCallLaws.{entry_bad, entry_none, entry_there}
-use borrow.Author.Rules.{rules}
 use Rattle.store_reading.proofs.write_entry_path.Goals as goal
 use Rattle.store_reading.proofs.write_entry_path.Goals.{After-shared_slice_known-1, Else-is_held, Else-is_store, Then-is_held, Then-is_store}
 

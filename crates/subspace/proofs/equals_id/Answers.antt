@@ -1,5 +1,4 @@
 -- No id is all of them; an id is compared as its number.
-use borrow.Author.Rules.{rules}
 use Rattle.subspace.proofs.equals_id.Goals as goal
 
 pub returns-in-Any : goal.returns-in-Any

@@ -1,7 +1,6 @@
 -- The test, as an answer.
 use mathlib.Core.Path.{◌∙◌, ap}
 use Rattle.willow.specs.Refusals.{value}
-use borrow.Author.Rules.{rules}
 use Rattle.subspace.proofs.includes_area_subspace.Goals as goal
 
 pub returns : goal.returns

@@ -1,6 +1,5 @@
 -- One equation for each pair of kinds; for two ids, one for each side of the test.
 use borrow.Author.Tests.{eq-eqb, ne_eqb}
-use borrow.Author.Rules.{rules}
 use Rattle.subspace.proofs.intersection.Goals as goal
 
 pub returns-in-Any : goal.returns-in-Any

@@ -1,5 +1,4 @@
 -- One equation for each kind of subspace.
-use borrow.Author.Rules.{rules}
 use Rattle.subspace.proofs.is_any.Goals as goal
 
 pub returns-in-Any : goal.returns-in-Any

@@ -6,7 +6,6 @@ use Rattle.lent_path.proofs.TestLaws.{one_passed, one_refused, readable}
 use Rattle.willow.proofs.AnswerLaws.{written_as}
 use Rattle.lent_path.proofs.LentLaws.{component_there}
 use Rattle.reading.proofs.QuestionLaws.{component_asked, component_none}
-use borrow.Author.Rules.{rules}
 use Rattle.writing.proofs.write_component.Goals as goal
 
 pub component-requires : goal.component-requires

@@ -4,7 +4,6 @@ use native.Mathlib.Omega.{arith}
 use borrow.Author.Tests.{le-leb, lt-leb}
 use Rattle.packed.proofs.PrefixLaws.{Front, front}
 use Rattle.writing.proofs.WritingLaws.{prefix_fits, prefix_size, put_in_front}
-use borrow.Author.Rules.{rules}
 use Rattle.writing.proofs.write_first.Goals as goal
 use Rattle.writing.proofs.write_first.Goals.{Start}
 

@@ -5,7 +5,6 @@ use Rattle.lent_path.proofs.TestLaws.{two_passed, two_refused, readable_two}
 use Rattle.writing.proofs.WritingLaws.{common_within, common_asked}
 use Rattle.willow.proofs.AnswerLaws.{made_as}
 use Rattle.lent_path.proofs.LentLaws.{readable_prefix}
-use borrow.Author.Rules.{rules}
 use Rattle.writing.proofs.write_longest_common_prefix.Goals as goal
 
 pub common-requires : goal.common-requires

@@ -5,7 +5,6 @@ use Rattle.lent_path.proofs.TestLaws.{one_passed, one_refused, readable}
 use Rattle.writing.proofs.WritingLaws.{prefix_asked, prefix_none}
 use Rattle.willow.proofs.AnswerLaws.{made_as}
 use Rattle.lent_path.proofs.LentLaws.{readable_prefix}
-use borrow.Author.Rules.{rules}
 use Rattle.writing.proofs.write_prefix.Goals as goal
 
 pub write_first-requires : goal.write_first-requires

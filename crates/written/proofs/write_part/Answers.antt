@@ -2,7 +2,6 @@
 use mathlib.Core.Path.{refl, ◌∙◌}
 use borrow.Author.Tests.{le-leb, lt-leb}
 use Rattle.number.proofs.OverwritingLaws.{overwrite_at_front}
-use borrow.Author.Rules.{rules}
 use Rattle.written.proofs.write_part.Goals as goal
 
 pub returns-then-out-part : goal.returns-then-out-part

@@ -2,7 +2,6 @@
 use mathlib.Core.Path.{sym, ◌∙◌, ap}
 use Rattle.willow.specs.Refusals.{value}
 use Rattle.area.proofs.LentAreaLaws.{first_fails, second_fails, third_decides, almost_tests}
-use borrow.Author.Rules.{rules}
 use Rattle.area.proofs.inner.almost_includes_area.Goals as goal
 
 pub returns-then-is_prefix_of : goal.returns-then-is_prefix_of

@@ -2,7 +2,6 @@
 use mathlib.Core.Path.{◌∙◌, ap}
 use Rattle.willow.specs.Refusals.{value}
 use Rattle.entry.proofs.HeadLaws.{decided}
-use borrow.Author.Rules.{rules}
 use Rattle.area.proofs.inner.compare.Goals as goal
 
 pub returns-in-Less : goal.returns-in-Less

@@ -2,7 +2,6 @@
 use mathlib.Core.Path.{sym, ◌∙◌, ap}
 use Rattle.willow.specs.Refusals.{value}
 use Rattle.area.proofs.LentAreaLaws.{first_fails, second_fails, third_decides, prunable_tests, not_above, above}
-use borrow.Author.Rules.{rules}
 use Rattle.area.proofs.inner.could_be_pruned.Goals as goal
 
 pub returns-then-times-timestamp : goal.returns-then-times-timestamp

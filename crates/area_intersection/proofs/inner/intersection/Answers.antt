@@ -3,7 +3,6 @@ use Rattle.subspace.specs.Subspaces as subspaces
 use Rattle.range.specs.NumberRanges as ranges
 use Rattle.packed.proofs.PrefixLaws.{front}
 use Rattle.area_intersection.proofs.MetLaws.{answered, subspaces_refused, times_refused, no_subspace, no_times, all_parts}
-use borrow.Author.Rules.{rules}
 use Rattle.area_intersection.proofs.inner.intersection.Goals as goal
 
 pub returns-in-Refused : goal.returns-in-Refused

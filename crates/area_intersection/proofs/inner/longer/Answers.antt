@@ -1,7 +1,6 @@
 -- One equation for each answer of the two tests.
 use mathlib.Core.Path.{sym, ◌∙◌}
 use Rattle.area_intersection.proofs.MetLaws.{second_stands, first_stands, neither_stands}
-use borrow.Author.Rules.{rules}
 use Rattle.area_intersection.proofs.inner.longer.Goals as goal
 
 pub returns-then-is_prefix_of : goal.returns-then-is_prefix_of

@@ -1,5 +1,4 @@
 -- One equation for each side.
-use borrow.Author.Rules.{rules}
 use Rattle.area_intersection.proofs.inner.met.Goals as goal
 
 pub returns-in-First : goal.returns-in-First

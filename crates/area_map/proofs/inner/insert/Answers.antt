@@ -6,7 +6,6 @@ use Rattle.willow.specs.Answers.{path_refusal}
 use Rattle.willow.proofs.NumberLaws.{bytes_by_index}
 use Rattle.lent_path.proofs.TestLaws.{one_passed, readable}
 use Rattle.area_map.proofs.InsertLaws.{known, path_fits, path_refused, no_room_lem, free, room, taken}
-use borrow.Author.Rules.{rules}
 use Rattle.area_map.proofs.inner.insert.Goals as goal
 
 pub read_u64-capacity-requires : goal.read_u64-capacity-requires

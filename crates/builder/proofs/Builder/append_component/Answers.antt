@@ -1,8 +1,7 @@
 -- The tests decide: they refuse and nothing is changed, or they pass, and then the buffer is one that the component can be written into.
 use native.Mathlib.Omega.{arith}
-use borrow.Author.Rules.{rules}
 use Rattle.builder_law.proofs.CallLaws.{append_passed}
-use Rattle.builder.proofs.AnswerLaws.{append_refused, append_grown, passed}
+use Rattle.builder.proofs.AnswerLaws.{passed}
 use Rattle.builder.proofs.Builder.append_component.Goals as goal
 
 pub put_next-requires : goal.put_next-requires

@@ -1,6 +1,5 @@
 -- The tests decide; what passed them fits into the buffer, so that its size is a number of 64 bits.
 use native.Mathlib.Omega.{arith}
-use borrow.Author.Rules.{rules}
 use Rattle.builder_law.proofs.CallLaws.{build_passed, size_is}
 use Rattle.builder.specs.Calls.{state_in}
 use Rattle.builder.proofs.AnswerLaws.{build_refused, build_made, passed}

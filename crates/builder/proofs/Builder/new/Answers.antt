@@ -1,5 +1,4 @@
 -- The tests decide: they refuse and nothing is written, or they pass and the count and zeros are.
-use borrow.Author.Rules.{rules}
 use Rattle.builder_law.proofs.CallLaws.{start_passed}
 use Rattle.builder.proofs.AnswerLaws.{start_refused, start_ready, passed}
 use Rattle.builder.proofs.Builder.new.Goals as goal

@@ -1,5 +1,4 @@
 -- The tests decide: they refuse and nothing is written, or they pass and the prefix is.
-use borrow.Author.Rules.{rules}
 use Rattle.builder_law.proofs.CallLaws.{prefix_passed}
 use Rattle.builder.proofs.AnswerLaws.{start_refused, start_ready, passed}
 use Rattle.builder.proofs.Builder.new_from_prefix.Goals as goal

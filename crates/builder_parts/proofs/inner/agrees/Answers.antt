@@ -1,6 +1,5 @@
 -- One law for each way out: another count, more than declared, wrong steps, or as the zeros to come say.
 use mathlib.Core.Path.{sym, ◌∙◌}
-use borrow.Author.Rules.{rules}
 use Rattle.builder_parts.proofs.StepLaws.{agree_count, agree_many, agree_steps, agree_zeros}
 use Rattle.builder_parts.proofs.inner.agrees.Goals as goal
 

@@ -1,6 +1,5 @@
 -- One law for each way out: too short for the count, too short for the table, or as what is left says.
 use mathlib.Core.Path.{sym}
-use borrow.Author.Rules.{rules}
 use Rattle.builder_parts.proofs.StepLaws.{size_no_count, size_no_table, size_by_rest}
 use Rattle.builder_parts.proofs.inner.long_enough.Goals as goal
 

@@ -1,6 +1,5 @@
 -- The two writes lie inside, for the buffer agrees; with them the components that are there have the new one behind them.
 use native.Mathlib.Omega.{arith}
-use borrow.Author.Rules.{rules}
 use Rattle.willow.proofs.NumberLaws.{bytes_by_index}
 use Rattle.builder_parts.proofs.WriteLaws.{NextKnown, next_known, next_written}
 use Rattle.builder_parts.proofs.inner.put_next.Goals as goal

@@ -1,6 +1,5 @@
 -- Four writes, each from where the one before it ended, make what stands in the buffer once the prefix is appended.
 use native.Mathlib.Omega.{arith}
-use borrow.Author.Rules.{rules}
 use Rattle.willow.proofs.NumberLaws.{bytes_by_index}
 use Rattle.packed.proofs.PrefixLaws.{Front, front}
 use Rattle.builder_parts.proofs.WriteLaws.{prefix_written}

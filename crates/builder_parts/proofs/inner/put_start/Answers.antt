@@ -1,5 +1,4 @@
 -- The count and the zeros are written one behind the other: together what stands in the buffer of a builder that holds nothing.
-use borrow.Author.Rules.{rules}
 use Rattle.builder_parts.proofs.WriteLaws.{start_written}
 use Rattle.builder_parts.proofs.inner.put_start.Goals as goal
 

@@ -2,7 +2,6 @@
 use mathlib.Core.Option.{none}
 use mathlib.Core.Path.{◌≡◌, sym, ◌∙◌}
 use native.Mathlib.Omega.{arith}
-use borrow.Author.Rules.{rules}
 use Rattle.builder_law.specs.Building.{State, state_of, state_refusal}
 use Rattle.builder_law.proofs.StateLaws.{handed_on, passed_on, known_within}
 use Rattle.builder_law.proofs.CallLaws.{append_tested, append_wide, append_many, append_long, append_fine, append_room}

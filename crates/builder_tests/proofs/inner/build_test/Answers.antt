@@ -1,7 +1,6 @@
 -- Behind the tests of the state, one law for each way out.
 use mathlib.Core.Option.{none}
 use mathlib.Core.Path.{◌≡◌, sym, ◌∙◌}
-use borrow.Author.Rules.{rules}
 use Rattle.builder_law.specs.Building.{State, state_of, state_refusal}
 use Rattle.builder_law.proofs.StateLaws.{handed_on, passed_on}
 use Rattle.builder_law.proofs.CallLaws.{build_tested, build_count, build_length, build_fine, build-nothing, build-empty, build_room}

@@ -1,6 +1,5 @@
 -- Of a state that passed, a buffer that is long enough agrees, so that its table can be read and its last length is the sum.
 use mathlib.Core.Path.{sym, ◌∙◌}
-use borrow.Author.Rules.{rules}
 use Rattle.builder_law.proofs.StateLaws.{table_there, known_last, known_none}
 use Rattle.builder_tests.proofs.inner.known_length.Goals as goal
 

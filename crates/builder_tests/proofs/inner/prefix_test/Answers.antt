@@ -1,7 +1,6 @@
 -- Behind the tests of the reference and of the declared sizes, one law for each way out; the prefix can be read once it is there.
 use mathlib.Core.Option.{none}
 use mathlib.Core.Path.{◌≡◌, sym, ◌∙◌}
-use borrow.Author.Rules.{rules}
 use Rattle.willow.specs.Answers.{path_refusal}
 use Rattle.builder_law.specs.Building.{State, state_of, limits_of, declared_refusal}
 use Rattle.builder_law.proofs.StateLaws.{handed_on, passed_on}

@@ -1,6 +1,5 @@
 -- One law for each way out.
 use mathlib.Core.Path.{sym, ◌∙◌}
-use borrow.Author.Rules.{rules}
 use Rattle.builder_law.specs.Building.{State, state_of}
 use Rattle.builder_law.proofs.StateLaws.{handed_on, passed_on}
 use Rattle.builder_law.proofs.CallLaws.{start_limits, start_tested, start_fine, start_room}

@@ -1,6 +1,5 @@
 -- The limits decide first, then a buffer that is long enough, then the declared sizes; one law for each way out.
 use mathlib.Core.Path.{sym, ◌∙◌}
-use borrow.Author.Rules.{rules}
 use Rattle.builder_law.specs.Building.{State, state_of}
 use Rattle.builder_law.proofs.StateLaws.{table_room, state_limits, state_short, state_wrong, state_right}
 use Rattle.builder_tests.proofs.inner.state_test.Goals as goal

@@ -2,7 +2,6 @@
 use mathlib.Core.Path.{◌∙◌}
 use mathlib.Core.List.{[]}
 use Rattle.entry.proofs.HeadLaws.{decided}
-use borrow.Author.Rules.{rules}
 use Rattle.entry.proofs.inner.compare.Goals as goal
 
 pub compare_places-requires : goal.compare_places-requires

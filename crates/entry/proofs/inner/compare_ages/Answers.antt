@@ -1,7 +1,6 @@
 -- The comparison of timestamps decides, then that of the digests, then that of the payload lengths.
 use mathlib.Core.Path.{◌∙◌}
 use Rattle.entry.proofs.HeadLaws.{decided}
-use borrow.Author.Rules.{rules}
 use Rattle.entry.proofs.inner.compare_ages.Goals as goal
 
 pub returns-in-Less : goal.returns-in-Less

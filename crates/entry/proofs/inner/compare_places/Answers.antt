@@ -1,7 +1,6 @@
 -- The comparison of subspaces decides, then that of the paths.
 use mathlib.Core.Path.{◌∙◌}
 use Rattle.entry.proofs.HeadLaws.{decided}
-use borrow.Author.Rules.{rules}
 use Rattle.entry.proofs.inner.compare_places.Goals as goal
 
 pub compare-requires : goal.compare-requires

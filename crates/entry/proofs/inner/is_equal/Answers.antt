@@ -1,6 +1,5 @@
 -- Two entries are equal where the order of entries says so.
 use Rattle.entry.proofs.HeadLaws.{same_by}
-use borrow.Author.Rules.{rules}
 use Rattle.entry.proofs.inner.is_equal.Goals as goal
 
 pub compare-requires : goal.compare-requires

@@ -1,6 +1,5 @@
 -- The first is newer where the order of ages says greater.
 use Rattle.entry.proofs.HeadLaws.{newer_by}
-use borrow.Author.Rules.{rules}
 use Rattle.entry.proofs.inner.is_newer_than.Goals as goal
 
 pub returns-in-Less : goal.returns-in-Less

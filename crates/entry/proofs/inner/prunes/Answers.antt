@@ -1,7 +1,6 @@
 -- One equation for each test that fails, and one for the paths where none does.
 use mathlib.Core.Path.{sym, ◌∙◌}
 use Rattle.entry.proofs.HeadLaws.{other_namespace, other_subspace, not_newer, newer_prunes}
-use borrow.Author.Rules.{rules}
 use Rattle.entry.proofs.inner.prunes.Goals as goal
 
 pub returns-then-namespace-namespace2 : goal.returns-then-namespace-namespace2

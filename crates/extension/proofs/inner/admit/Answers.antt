@@ -1,7 +1,6 @@
 -- Each return is a test of the whole path, which is one of the slices, since the path itself is valid under the limits.
 use mathlib.Core.Path.{sym, ◌∙◌}
 use native.Mathlib.Omega.{arith}
-use borrow.Author.Rules.{rules}
 use Rattle.willow.proofs.NumberLaws.{bytes_by_index}
 use Rattle.extension.proofs.AdmissionLaws.{Lent, lent_known, judge_lengths, judge_long, judge_many, judge_wide, judge_fine}
 use Rattle.extension.proofs.inner.admit.Goals as goal

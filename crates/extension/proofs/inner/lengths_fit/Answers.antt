@@ -1,10 +1,8 @@
-use Prim.Native.Nat.{◌-◌, ◌+◌, ◌%◌, ◌≤◌}
-use mathlib.Core.Path.{◌≡◌, sym, ◌∙◌}
+use Prim.Native.Nat.{◌-◌, ◌+◌, ◌≤◌}
+use mathlib.Core.Path.{sym, ◌∙◌}
 use native.Mathlib.Omega.{arith}
 use lib.ListN.{length}
-use borrow.Author.Rules.{rules}
-use Rattle.willow.specs.Construction.{lengths_fit}
-use Rattle.extension.proofs.LengthLaws.{rest_fits, fit_uneven, fit_start, fit_over, fit_on, fit_end}
+use Rattle.extension.proofs.LengthLaws.{fit_uneven, fit_start, fit_over, fit_on, fit_end}
 use Rattle.extension.proofs.inner.lengths_fit.Goals as goal
 
 pub returns-then-lengths-ne0 : goal.returns-then-lengths-ne0

@@ -1,11 +1,9 @@
 -- What is left of the bytes is what the lengths not yet read have to add up to; a length over it decides at once.
-use Prim.Native.Nat.{◌-◌, ◌+◌, ◌%◌, ◌≤◌}
-use mathlib.Core.Path.{◌≡◌, sym, ◌∙◌}
-use native.Mathlib.Omega.{arith}
+use Prim.Native.Nat.{◌-◌, ◌%◌, ◌≤◌}
+use mathlib.Core.Path.{◌≡◌}
 use lib.ListN.{length}
-use borrow.Author.Rules.{rules}
 use Rattle.willow.specs.Construction.{lengths_fit}
-use Rattle.extension.proofs.LengthLaws.{rest_fits, fit_uneven, fit_start, fit_over, fit_on, fit_end}
+use Rattle.extension.proofs.LengthLaws.{rest_fits}
 use Rattle.extension.proofs.inner.lengths_fit.Given as goal
 
 abbrev pub invariant-loop-at : goal.invariant-loop-at

@@ -1,13 +1,6 @@
-use Prim.Native.Nat.{◌+◌, ◌*◌, ◌≤◌}
-use mathlib.Core.Path.{◌≡◌, sym, ◌∙◌}
-use mathlib.Core.Bool.{not}
+use mathlib.Core.Path.{sym, ◌∙◌}
 use native.Mathlib.Omega.{arith}
-use lib.Dec.{ltb}
-use lib.ListN.{length}
-use borrow.Author.Rules.{rules}
-use Rattle.willow.specs.Construction.{lengths_in}
-use Rattle.willow.specs.Lists.{any}
-use Rattle.extension.proofs.LengthLaws.{rest_within, within_start, within_over, within_on, within_end}
+use Rattle.extension.proofs.LengthLaws.{within_start, within_over, within_on, within_end}
 use Rattle.extension.proofs.inner.lengths_within.Goals as goal
 
 pub loop-left-init : goal.loop-left-init

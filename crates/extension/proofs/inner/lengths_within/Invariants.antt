@@ -1,14 +1,12 @@
 -- Whether none of the lengths that are left is over MCL is what is left to answer; the first that is over it decides.
 use Prim.Native.Nat.{◌+◌, ◌*◌, ◌≤◌}
-use mathlib.Core.Path.{◌≡◌, sym, ◌∙◌}
+use mathlib.Core.Path.{◌≡◌}
 use mathlib.Core.Bool.{not}
-use native.Mathlib.Omega.{arith}
 use lib.Dec.{ltb}
 use lib.ListN.{length}
-use borrow.Author.Rules.{rules}
 use Rattle.willow.specs.Construction.{lengths_in}
 use Rattle.willow.specs.Lists.{any}
-use Rattle.extension.proofs.LengthLaws.{rest_within, within_start, within_over, within_on, within_end}
+use Rattle.extension.proofs.LengthLaws.{rest_within}
 use Rattle.extension.proofs.inner.lengths_within.Given as goal
 
 abbrev pub invariant-loop-left : goal.invariant-loop-left

@@ -1,7 +1,6 @@
 -- Five writes, each from where the one before it ended, make the packed form of the path with the slices behind it.
 use native.Mathlib.Omega.{arith}
 use lib.ListN.{length-take, length-drop}
-use borrow.Author.Rules.{rules}
 use Rattle.willow.proofs.NumberLaws.{bytes_by_index}
 use Rattle.extension.proofs.ExtendedLaws.{Extent, extent, extended_written}
 use Rattle.extension.proofs.inner.put_extended.Goals as goal

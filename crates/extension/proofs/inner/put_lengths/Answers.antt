@@ -1,12 +1,7 @@
-use Prim.Native.Nat.{◌+◌, ◌*◌, ◌≤◌}
-use mathlib.Core.Path.{◌≡◌, refl, sym, ◌∙◌}
+use Prim.Native.Nat.{◌+◌, ◌≤◌}
+use mathlib.Core.Path.{refl, sym, ◌∙◌}
 use native.Mathlib.Omega.{arith}
-use lib.ListN.{length, drop}
-use borrow.Author.Rules.{rules}
-use Rattle.willow.specs.Construction.{numbers, lengths_in, total}
-use Rattle.willow.specs.Limits.{max_word}
-use Rattle.number.specs.Overwriting.{overwrite}
-use Rattle.extension.specs.Extending.{accumulated_by}
+use lib.ListN.{length}
 use Rattle.extension.proofs.LengthLaws.{put_start, start_total, rest_total, put_on, put_end}
 use Rattle.extension.proofs.inner.put_lengths.Goals as goal
 

@@ -1,14 +1,11 @@
 -- What is left to write, written from where the last sum ended, gives the whole table; no sum passes the total.
 use Prim.Native.Nat.{◌+◌, ◌*◌, ◌≤◌}
-use mathlib.Core.Path.{◌≡◌, refl, sym, ◌∙◌}
-use native.Mathlib.Omega.{arith}
+use mathlib.Core.Path.{◌≡◌}
 use lib.ListN.{length, drop}
-use borrow.Author.Rules.{rules}
 use Rattle.willow.specs.Construction.{numbers, lengths_in, total}
 use Rattle.willow.specs.Limits.{max_word}
 use Rattle.number.specs.Overwriting.{overwrite}
 use Rattle.extension.specs.Extending.{accumulated_by}
-use Rattle.extension.proofs.LengthLaws.{put_start, start_total, rest_total, put_on, put_end}
 use Rattle.extension.proofs.inner.put_lengths.Given as goal
 
 abbrev pub invariant-loop-left : goal.invariant-loop-left

@@ -1,6 +1,5 @@
 -- The size that is compared is the length of the packed form, so 15 is given exactly where it does not fit.
 use native.Mathlib.Omega.{arith}
-use borrow.Author.Rules.{rules}
 use Rattle.extension.proofs.ExtendedLaws.{extended_size, extended_refused, extended_answered}
 use Rattle.extension.proofs.inner.write_extended.Goals as goal
 

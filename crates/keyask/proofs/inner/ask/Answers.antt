@@ -3,7 +3,6 @@ use Rattle.willow.specs.Packed.{widest}
 use Rattle.greatest.specs.Greatest.{greatest_outcome}
 use Rattle.keyask.specs.Found.{Finds, found_as, CountReadable}
 use Rattle.keyask.proofs.LineLaws.{line_bad, line_greatest, successor_place, next_greater_place, line_successor, line_next_greater, greatest_found}
-use borrow.Author.Rules.{rules}
 use Rattle.keyask.proofs.inner.ask.Goals as goal
 
 pub slice_bounds-ask_successor-count : goal.slice_bounds-ask_successor-count

@@ -6,7 +6,6 @@ use Rattle.keyform.specs.Reading.{read_path}
 use Rattle.keyform.specs.Wording.{next_greater_of}
 use Rattle.keyask.specs.Found.{Stands, Finds, found_as, CountReadable, made_outcome, text_outcome}
 use Rattle.keyask.proofs.AskedLaws.{found_refused, found_nothing, found_path, next_greater_refused, next_greater_nothing, next_greater_found}
-use borrow.Author.Rules.{rules}
 use Rattle.keyask.proofs.inner.ask_next_greater.Goals as goal
 
 pub slice_bounds-greater_but_not_prefixed-end : goal.slice_bounds-greater_but_not_prefixed-end

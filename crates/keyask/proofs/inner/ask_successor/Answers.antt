@@ -6,7 +6,6 @@ use Rattle.keyform.specs.Reading.{read_path}
 use Rattle.keyform.specs.Wording.{successor_of}
 use Rattle.keyask.specs.Found.{Stands, Finds, found_as, CountReadable, made_outcome, text_outcome}
 use Rattle.keyask.proofs.AskedLaws.{found_refused, found_nothing, found_path, successor_refused, successor_nothing, successor_found}
-use borrow.Author.Rules.{rules}
 use Rattle.keyask.proofs.inner.ask_successor.Goals as goal
 
 pub slice_bounds-successor-end : goal.slice_bounds-successor-end

@@ -2,7 +2,6 @@
 use mathlib.Core.Path.{sym, ap}
 use Rattle.keyask.specs.Found.{found_as}
 use Rattle.keyask.proofs.FoundLaws.{count_readable, count_found}
-use borrow.Author.Rules.{rules}
 use Rattle.keyask.proofs.inner.found_in.Goals as goal
 
 pub slice_bounds-component_count-end : goal.slice_bounds-component_count-end

@@ -7,7 +7,7 @@ use Rattle.number.specs.Overwriting.{overwrite}
 use Rattle.keyform.specs.Answering.{refused_text, held_answer}
 use Rattle.keyinput.specs.Held.{held_in}
 use Rattle.keyline.proofs.AnswerLaws.{answer_room, refused_bound, newline_room, newline_place, newline_written}
-use Rattle.keyinput.proofs.HeldLaws.{long_ended, kept_ended, rooms_of}
+use Rattle.keyinput.proofs.HeldLaws.{long_ended, kept_ended}
 use borrow.Author.Rules.{rules}
 use Rattle.keyinput.proofs.inner.end_line.Reads as reads
 use Rattle.keyinput.proofs.inner.end_line.Lts as lts

@@ -2,11 +2,9 @@ use Prim.Native.Nat.{◌+◌, ◌-◌, ◌≤◌, ◌<◌}
 use mathlib.Core.Bool.{true}
 use mathlib.Core.Path.{◌≡◌, refl, sym, ◌∙◌}
 use native.Mathlib.Omega.{arith}
-use borrow.Author.Rules.{rules}
-use lib.ListN.{length, take}
+use lib.ListN.{length}
 use Rattle.willow.specs.Limits.{max_word}
 use Rattle.keyform.specs.Answering.{max_answer}
-use Rattle.keyinput.specs.Held.{Scratch, held_in, Takes}
 use Rattle.keyinput.proofs.HeldLaws.{feed_start, feed_again, room_for, place_fits, place_next, scratch_same, stopped_at, goes}
 use Rattle.keyinput.proofs.inner.feed.Reads as reads
 use Rattle.keyinput.proofs.inner.feed.Lts as lts

@@ -4,7 +4,6 @@ use lib.ListN.{length}
 use Rattle.number.specs.Overwriting.{overwrite}
 use Rattle.number.proofs.OverwritingLaws.{overwrite_nil}
 use Rattle.keyinput.proofs.HeldLaws.{end_empty, end_long, end_kept, from_zero}
-use borrow.Author.Rules.{rules}
 use Rattle.keyinput.proofs.inner.finish.Reads as reads
 use Rattle.keyinput.proofs.inner.finish.Lts as lts
 use Rattle.keyinput.proofs.inner.end_line.Reads as end-line-reads

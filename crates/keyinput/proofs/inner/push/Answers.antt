@@ -1,6 +1,5 @@
 -- A line that is not full takes the byte; of a full one only that it is too long is kept.
 use Rattle.keyinput.proofs.HeldLaws.{pushed, pushed_fits, full, full_fits}
-use borrow.Author.Rules.{rules}
 use Rattle.keyinput.proofs.inner.push.Reads as reads
 use Rattle.keyinput.proofs.inner.push.Lts as lts
 use Rattle.keyinput.proofs.inner.push.Goals as goal

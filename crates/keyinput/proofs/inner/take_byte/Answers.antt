@@ -1,6 +1,5 @@
 -- A newline ends the line that is held, another byte makes it longer.
 use Rattle.keyinput.proofs.HeldLaws.{line_taken, byte_taken}
-use borrow.Author.Rules.{rules}
 use Rattle.keyinput.proofs.inner.take_byte.Reads as reads
 use Rattle.keyinput.proofs.inner.take_byte.Lts as lts
 use Rattle.keyinput.proofs.inner.end_line.Reads as end-line-reads

@@ -1,10 +1,7 @@
 -- A line that is too long gets 3; of another the answer stands before the newline.
-use mathlib.Core.Path.{◌≡◌, sym, ◌∙◌, ap}
-use lib.ListN.{take}
 use Rattle.willow.specs.declared.Refusal.TheVariants.{BadKind}
 use Rattle.keyform.specs.Answering.{refused_text}
 use Rattle.keyline.proofs.AnswerLaws.{answer_room, refused_bound, refused_front, answer_front}
-use borrow.Author.Rules.{rules}
 use Rattle.keyline.proofs.inner.answer_any.Reads as reads
 use Rattle.keyline.proofs.inner.answer_any.Lts as lts
 use Rattle.keyline.proofs.inner.answer_line.Reads as answer-line-reads

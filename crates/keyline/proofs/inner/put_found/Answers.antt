@@ -2,11 +2,8 @@
 use mathlib.Core.Path.{◌∙◌, ap}
 use lib.ListN.{length}
 use Rattle.number.specs.Overwriting.{overwrite}
-use Rattle.willow.specs.Answers.{path_in}
-use Rattle.keyform.specs.Texts.{path_text}
 use Rattle.keyline.proofs.AnswerLaws.{room_as, place_as, text_as, part_room, part_text}
 use Prim.Native.Nat.{◌+◌}
-use borrow.Author.Rules.{rules}
 use Rattle.keyline.proofs.inner.put_found.Reads as reads
 use Rattle.keyline.proofs.inner.put_found.Lts as lts
 use Rattle.keyshow.proofs.inner.put_none.Reads as put-none-reads

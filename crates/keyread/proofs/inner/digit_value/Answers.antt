@@ -2,7 +2,6 @@
 use mathlib.Core.Path.{refl}
 use native.Mathlib.Omega.{arith}
 use Rattle.keyread.proofs.DigitLaws.{digit_bounds}
-use borrow.Author.Rules.{rules}
 use Rattle.keyread.proofs.inner.digit_value.Goals as goal
 
 pub overflow_sub-result : goal.overflow_sub-result

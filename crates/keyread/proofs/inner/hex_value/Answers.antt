@@ -1,7 +1,6 @@
 -- A digit, then a letter from a to f: each return is one law.
 use mathlib.Core.Path.{sym, ◌∙◌}
 use Rattle.keyread.proofs.DigitLaws.{digit_bounds, hex_decimal, hex_below, hex_above, hex_letter}
-use borrow.Author.Rules.{rules}
 use Rattle.keyread.proofs.inner.hex_value.Goals as goal
 
 pub overflow_sub-result : goal.overflow_sub-result

@@ -1,7 +1,6 @@
 -- Each return is one test of the definition.
 use mathlib.Core.Path.{sym}
 use Rattle.keyread.proofs.PieceLaws.{dash_long, dash_one}
-use borrow.Author.Rules.{rules}
 use Rattle.keyread.proofs.inner.is_dash.Goals as goal
 
 pub returns-then-s-eq1 : goal.returns-then-s-eq1

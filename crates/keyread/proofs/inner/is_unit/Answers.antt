@@ -1,7 +1,6 @@
 -- Each return is one test of the definition.
 use mathlib.Core.Path.{sym}
 use Rattle.keyread.proofs.PieceLaws.{unit_long, unit_other, unit_opened}
-use borrow.Author.Rules.{rules}
 use Rattle.keyread.proofs.inner.is_unit.Goals as goal
 
 pub returns-then-s-eq40 : goal.returns-then-s-eq40

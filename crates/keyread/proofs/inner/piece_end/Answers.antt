@@ -1,7 +1,5 @@
 use Prim.Native.Nat.{◌-◌}
-use lib.ListN.{length}
-use borrow.Author.Rules.{rules}
-use Rattle.keyread.proofs.PieceLaws.{PieceTo, piece_start, piece_more, piece_ended, piece_last}
+use Rattle.keyread.proofs.PieceLaws.{piece_start, piece_more, piece_ended, piece_last}
 use Rattle.keyread.proofs.inner.piece_end.Goals as goal
 
 pub loop-i-init : goal.loop-i-init

@@ -4,7 +4,6 @@ use mathlib.Core.Path.{refl, sym, ◌∙◌}
 use native.Mathlib.Omega.{arith}
 use Rattle.number.proofs.OverwritingLaws.{overwrite_nil}
 use Rattle.keyread.proofs.PieceLaws.{component_none, component_dash, component_of_hex, component_not_hex}
-use borrow.Author.Rules.{rules}
 use Rattle.keyread.proofs.inner.read_component.Goals as goal
 
 pub returns-then-s-eq0 : goal.returns-then-s-eq0

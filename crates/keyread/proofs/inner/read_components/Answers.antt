@@ -1,10 +1,8 @@
-use Prim.Native.Nat.{◌+◌, ◌-◌}
+use Prim.Native.Nat.{◌-◌}
 use mathlib.Core.List.{[]}
 use mathlib.Core.Path.{◌∙◌}
 use borrow.Author.Rules.{rules}
-use lib.ListN.{length}
-use Rattle.willow.specs.Paths.{Path}
-use Rattle.keyread.proofs.PieceLaws.{PathSoFar, path_start, sizes_same, bytes_same, size_room, piece_room, path_none, path_again, path_read, component_bad, component_good}
+use Rattle.keyread.proofs.PieceLaws.{path_start, sizes_same, bytes_same, size_room, piece_room, path_none, path_again, path_read, component_bad, component_good}
 use Rattle.keyread.proofs.inner.read_components.Goals as goal
 
 pub loop-at-init : goal.loop-at-init

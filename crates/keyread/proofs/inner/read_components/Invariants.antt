@@ -1,11 +1,8 @@
 -- The components read so far are written, and stand before those of the pieces still to be read.
 use Prim.Native.Nat.{◌+◌, ◌-◌}
-use mathlib.Core.List.{[]}
-use mathlib.Core.Path.{◌∙◌}
-use borrow.Author.Rules.{rules}
 use lib.ListN.{length}
 use Rattle.willow.specs.Paths.{Path}
-use Rattle.keyread.proofs.PieceLaws.{PathSoFar, path_start, sizes_same, bytes_same, size_room, piece_room, path_none, path_again, path_read, component_bad, component_good}
+use Rattle.keyread.proofs.PieceLaws.{PathSoFar}
 use Rattle.keyread.proofs.inner.read_components.Given as goal
 
 abbrev pub invariant-loop-at : goal.invariant-loop-at

@@ -1,9 +1,7 @@
-use Prim.Native.Nat.{◌-◌, ◌^◌, ◌<◌, ◌≤◌}
-use mathlib.Core.Path.{◌≡◌, refl, sym, ◌∙◌}
+use Prim.Native.Nat.{◌-◌, ◌<◌}
+use mathlib.Core.Path.{refl, sym, ◌∙◌}
 use native.Mathlib.Omega.{arith}
-use borrow.Author.Rules.{rules}
-use lib.ListN.{length, drop}
-use Rattle.keyform.specs.Reading.{field_from, read_field}
+use Rattle.keyform.specs.Reading.{read_field}
 use Rattle.keyread.proofs.DigitLaws.{digits_fit, digits_more, field_ended, field_empty, field_full, field_on, field_other, field_unended}
 use Rattle.keyread.proofs.inner.read_field.Goals as goal
 

@@ -1,11 +1,8 @@
 -- What is left to read from a place on decides as the whole does; a number of so many digits is below a power of ten.
 use Prim.Native.Nat.{◌-◌, ◌^◌, ◌<◌, ◌≤◌}
-use mathlib.Core.Path.{◌≡◌, refl, sym, ◌∙◌}
-use native.Mathlib.Omega.{arith}
-use borrow.Author.Rules.{rules}
+use mathlib.Core.Path.{◌≡◌}
 use lib.ListN.{length, drop}
 use Rattle.keyform.specs.Reading.{field_from, read_field}
-use Rattle.keyread.proofs.DigitLaws.{digits_fit, digits_more, field_ended, field_empty, field_full, field_on, field_other, field_unended}
 use Rattle.keyread.proofs.inner.read_field.Given as goal
 
 abbrev pub invariant-loop-i : goal.invariant-loop-i

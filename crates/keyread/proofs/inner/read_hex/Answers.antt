@@ -1,11 +1,10 @@
-use Prim.Native.Nat.{ℕ, ◌+◌, ◌-◌, ◌<◌}
-use mathlib.Core.List.{List, []}
+use Prim.Native.Nat.{◌+◌, ◌-◌, ◌<◌}
+use mathlib.Core.List.{[]}
 use mathlib.Core.Path.{sym, ◌∙◌, ap}
 use native.Mathlib.Omega.{arith}
-use borrow.Author.Rules.{rules}
 use lib.ListN.{length, drop}
 use Rattle.keyform.specs.Reading.{before, read_hex}
-use Rattle.keyread.proofs.HexLaws.{HexSoFar, hex_start, hex_odd, hex_no_high, hex_no_low, hex_on, hex_none, hex_room, hex_same_length, hex_again, hex_end}
+use Rattle.keyread.proofs.HexLaws.{hex_start, hex_odd, hex_no_high, hex_no_low, hex_on, hex_none, hex_room, hex_same_length, hex_again, hex_end}
 use Rattle.keyread.proofs.inner.read_hex.Goals as goal
 
 pub loop-i-init : goal.loop-i-init

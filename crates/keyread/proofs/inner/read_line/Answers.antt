@@ -1,7 +1,6 @@
 -- Field by field: where one is missing there is no line, behind the third stands the question.
 use mathlib.Core.Path.{sym, ◌∙◌}
 use Rattle.keyread.proofs.QuestionLaws.{field_is, line_no_first, line_no_second, line_no_third, line_asked}
-use borrow.Author.Rules.{rules}
 use Rattle.keyread.proofs.inner.read_line.Goals as goal
 
 pub returns-in_default : goal.returns-in_default

@@ -4,7 +4,6 @@ use mathlib.Core.Path.{refl, sym, ◌∙◌}
 use native.Mathlib.Omega.{arith}
 use Rattle.number.proofs.OverwritingLaws.{overwrite_nil}
 use Rattle.keyread.proofs.PieceLaws.{path_unit, path_pieces}
-use borrow.Author.Rules.{rules}
 use Rattle.keyread.proofs.inner.read_path.Goals as goal
 
 pub returns-then-is_unit : goal.returns-then-is_unit

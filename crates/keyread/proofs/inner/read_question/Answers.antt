@@ -3,7 +3,6 @@ use mathlib.Core.Path.{sym, ap}
 use native.Mathlib.Omega.{arith}
 use Rattle.keyform.specs.Reading.{with_question}
 use Rattle.keyread.proofs.QuestionLaws.{question_unasked, question_greatest, question_greatest_more, question_letter_alone, question_successor, question_next_greater, question_other, question_unspaced}
-use borrow.Author.Rules.{rules}
 use Rattle.keyread.proofs.inner.read_question.Goals as goal
 
 pub returns-then-line-at : goal.returns-then-line-at

@@ -1,6 +1,5 @@
 -- The test of the code is the definition's: decimal digits follow 0, the others a.
 use native.Mathlib.Omega.{arith}
-use borrow.Author.Rules.{rules}
 use borrow.Author.Tests.{lt-ltb, le-ltb}
 use Rattle.keyshow.proofs.inner.hex_digit.Goals as goal
 

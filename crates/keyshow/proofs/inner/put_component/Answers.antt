@@ -2,7 +2,6 @@
 use mathlib.Core.Path.{ap}
 use native.Mathlib.Omega.{arith}
 use lib.ListN.{length}
-use borrow.Author.Rules.{rules}
 use Rattle.number.proofs.OverwritingLaws.{store_overwrite}
 use Rattle.keyshow.proofs.ShowLaws.{component_dash, component_hex}
 use Rattle.keyshow.proofs.inner.put_component.Goals as goal

@@ -1,9 +1,7 @@
-use Prim.Native.Nat.{◌+◌, ◌*◌, ◌-◌, ◌≤◌}
-use mathlib.Core.Path.{◌≡◌, refl, ◌∙◌}
+use Prim.Native.Nat.{◌-◌}
+use mathlib.Core.Path.{refl, ◌∙◌}
 use native.Mathlib.Omega.{arith}
-use lib.ListN.{length, drop, length-set}
-use Rattle.number.specs.Overwriting.{overwrite}
-use Rattle.keyform.specs.Texts.{hex_text}
+use lib.ListN.{length-set}
 use Rattle.keyform.proofs.PathTextLaws.{hex_text_length}
 use Rattle.keyshow.proofs.ShowLaws.{hex_turn, hex_end, nothing_left}
 use Rattle.keyshow.proofs.inner.put_hex.Goals as goal

@@ -1,12 +1,9 @@
 -- What is left to write from here gives what was to be written at first; a turn writes the two digits of a byte.
 use Prim.Native.Nat.{◌+◌, ◌*◌, ◌-◌, ◌≤◌}
-use mathlib.Core.Path.{◌≡◌, refl, ◌∙◌}
-use native.Mathlib.Omega.{arith}
-use lib.ListN.{length, drop, length-set}
+use mathlib.Core.Path.{◌≡◌}
+use lib.ListN.{length, drop}
 use Rattle.number.specs.Overwriting.{overwrite}
 use Rattle.keyform.specs.Texts.{hex_text}
-use Rattle.keyform.proofs.PathTextLaws.{hex_text_length}
-use Rattle.keyshow.proofs.ShowLaws.{hex_turn, hex_end, nothing_left}
 use Rattle.keyshow.proofs.inner.put_hex.Given as goal
 
 abbrev pub invariant-loop-i : goal.invariant-loop-i

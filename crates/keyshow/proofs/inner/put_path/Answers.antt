@@ -1,11 +1,10 @@
-use Prim.Native.Nat.{suc, ◌+◌, ◌-◌, ◌≤◌}
+use Prim.Native.Nat.{suc, ◌+◌, ◌-◌}
 use mathlib.Core.Path.{◌≡◌, refl, ◌∙◌, ap}
 use mathlib.Core.List.{[]}
 use native.Mathlib.Omega.{arith}
 use lib.ListN.{length, get_or, length-set}
 use Rattle.willow.specs.Answers.{path_in}
 use Rattle.willow.specs.Packed.{unpack}
-use Rattle.number.specs.Overwriting.{overwrite}
 use Rattle.keyform.specs.Texts.{slash, component_text, path_text}
 use Rattle.keyshow.proofs.ShowLaws.{two_stored, nothing_left, rest_text, none_shown, all_shown, first_length, first_written, next_length, next_written}
 use Rattle.keyshow.proofs.inner.put_path.Goals as goal

@@ -1,7 +1,6 @@
 -- The digits of the number are written behind the word: together the refusal's text.
 use native.Mathlib.Omega.{arith}
 use lib.ListN.{length-set}
-use borrow.Author.Rules.{rules}
 use Rattle.keyshow.proofs.ShowLaws.{one_length, one_written, two_length, two_written, number_below}
 use Rattle.keyshow.proofs.inner.put_refused.Goals as goal
 

@@ -1,11 +1,8 @@
-use borrow.Author.Rules.{rules}
-use mathlib.Core.Path.{◌≡◌, refl, sym, ◌∙◌, ap}
-use Prim.Native.Nat.{◌≤◌}
+use mathlib.Core.Path.{refl, sym, ◌∙◌, ap}
 use native.Mathlib.Omega.{arith}
-use lib.ListN.{length, take}
+use lib.ListN.{length}
 use lib.Seq.{take-length}
-use Rattle.willow.specs.Answers.{path_in}
-use Rattle.willow.specs.LeastPaths.{raise_component, next_greater}
+use Rattle.willow.specs.LeastPaths.{raise_component}
 use Rattle.packed.proofs.PrefixLaws.{front}
 use Rattle.least_search.specs.declared.Place.TheVariants as place
 use Rattle.least_search.proofs.RaiseLaws.{byte_passed, found_lengthened, found_raised, not_found, none_left, all_left, at_byte}

@@ -1,16 +1,11 @@
 -- From the back: what the components and bytes that are left give is what the whole path gives. A component or a byte that
 -- cannot be raised falls away, and the first that can is the place.
-use borrow.Author.Rules.{rules}
-use mathlib.Core.Path.{◌≡◌, refl, sym, ◌∙◌, ap}
+use mathlib.Core.Path.{◌≡◌}
 use Prim.Native.Nat.{◌≤◌}
-use native.Mathlib.Omega.{arith}
 use lib.ListN.{length, take}
-use lib.Seq.{take-length}
 use Rattle.willow.specs.Answers.{path_in}
 use Rattle.willow.specs.LeastPaths.{raise_component, next_greater}
-use Rattle.packed.proofs.PrefixLaws.{front}
 use Rattle.least_search.specs.declared.Place.TheVariants as place
-use Rattle.least_search.proofs.RaiseLaws.{byte_passed, found_lengthened, found_raised, not_found, none_left, all_left, at_byte}
 use Rattle.least_search.proofs.inner.search.Given as goal
 
 abbrev pub invariant-loop-j : goal.invariant-loop-j

@@ -6,7 +6,6 @@ use lib.ListN.{length, length-take, length-drop}
 use Rattle.willow.specs.Packed.{length_before}
 use Rattle.willow.proofs.NumberLaws.{bytes_by_index}
 use Rattle.least_writing.proofs.TailLaws.{Spot, spot, tail_size, tail_written}
-use borrow.Author.Rules.{rules}
 use Rattle.least_writing.proofs.inner.put_with_tail.Goals as goal
 use Rattle.least_writing.proofs.inner.put_with_tail.Goals.{Start}
 

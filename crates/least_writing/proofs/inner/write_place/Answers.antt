@@ -1,9 +1,7 @@
 -- A place stands for a path with a new last component; no place for none.
-use mathlib.Core.Path.{refl}
 use native.Mathlib.Omega.{arith}
 use Rattle.willow.proofs.AnswerLaws.{written_as}
 use Rattle.least_writing.proofs.CallLaws.{found_place, place_answer}
-use borrow.Author.Rules.{rules}
 use Rattle.least_writing.proofs.inner.write_place.Goals as goal
 
 pub write_with_tail-requires : goal.write_with_tail-requires

@@ -4,7 +4,6 @@ use native.Mathlib.Omega.{arith}
 use Rattle.willow.proofs.AnswerLaws.{made_as}
 use Rattle.least_writing.specs.Written.{path_or}
 use Rattle.least_writing.proofs.CallLaws.{end_tailed, successor_room, successor_full}
-use borrow.Author.Rules.{rules}
 use Rattle.least_writing.proofs.inner.write_successor.Goals as goal
 
 pub write_with_tail-requires : goal.write_with_tail-requires

@@ -4,7 +4,6 @@ use native.Mathlib.Omega.{arith}
 use borrow.Author.Tests.{le-leb, lt-leb}
 use Rattle.number.proofs.OverwritingLaws.{overwrite_at_front}
 use Rattle.least_writing.proofs.TailLaws.{Spot, spot, tail_size}
-use borrow.Author.Rules.{rules}
 use Rattle.least_writing.proofs.inner.write_with_tail.Goals as goal
 use Rattle.least_writing.proofs.inner.write_with_tail.Goals.{Start}
 

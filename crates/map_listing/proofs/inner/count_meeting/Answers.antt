@@ -1,12 +1,10 @@
 use Prim.Native.Nat.{◌-◌, ◌<◌}
 use mathlib.Core.Path.{◌≡◌, sym, ◌∙◌}
-use mathlib.Core.Logic.{inl, inr}
 use native.Mathlib.Omega.{arith}
 use lib.ListN.{length}
-use Rattle.area.specs.LentAreas.{area_in}
 use Rattle.map_form.specs.Maps.{rules_in}
 use Rattle.map_form.proofs.MapTestLaws.{map_passed}
-use Rattle.map_listing.proofs.MeetingLaws.{Counting, counting_starts, counts, passes_over, counted_all}
+use Rattle.map_listing.proofs.MeetingLaws.{counting_starts, counts, passes_over, counted_all}
 use Rattle.map_reading.proofs.RuleAtLaws.{rules_many, rules_few}
 use Rattle.map_listing.proofs.inner.count_meeting.Goals as goal
 use Rattle.map_listing.proofs.inner.count_meeting.Goals.{then-row_meets, else-row_meets}
@@ -38,7 +36,7 @@ loop-i-smaller c = omega (arith, c.loop-i-test.true)
 
 pub loop-i-preserved : goal.loop-i-preserved
 loop-i-preserved c = elim c.if-row_meets.branch [
-    then-row_meets w ↦ rw w.found-is (counts _ _ _ _ c.loop-i.invariant (below (goal.at.loop-i-preserved c).In-loop-i) (sym c.row_meets.ensures ∙ w.if-row_meets.true))
+  | then-row_meets w ↦ rw w.found-is (counts _ _ _ _ c.loop-i.invariant (below (goal.at.loop-i-preserved c).In-loop-i) (sym c.row_meets.ensures ∙ w.if-row_meets.true))
   | else-row_meets w ↦ rw w.found-is (passes_over _ _ _ _ c.loop-i.invariant (below (goal.at.loop-i-preserved c).In-loop-i) (sym c.row_meets.ensures ∙ w.if-row_meets.false))
 ]
 

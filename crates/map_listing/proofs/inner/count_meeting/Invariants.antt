@@ -1,14 +1,8 @@
 -- What was found and what is left to be counted from rule i on are all that meet: each turn takes one rule off.
-use Prim.Native.Nat.{◌-◌, ◌<◌}
-use mathlib.Core.Path.{◌≡◌, sym, ◌∙◌}
-use mathlib.Core.Logic.{inl, inr}
-use native.Mathlib.Omega.{arith}
-use lib.ListN.{length}
+use Prim.Native.Nat.{◌-◌}
 use Rattle.area.specs.LentAreas.{area_in}
 use Rattle.map_form.specs.Maps.{rules_in}
-use Rattle.map_form.proofs.MapTestLaws.{map_passed}
-use Rattle.map_listing.proofs.MeetingLaws.{Counting, counting_starts, counts, passes_over, counted_all}
-use Rattle.map_reading.proofs.RuleAtLaws.{rules_many, rules_few}
+use Rattle.map_listing.proofs.MeetingLaws.{Counting}
 use Rattle.map_listing.proofs.inner.count_meeting.Given as goal
 
 abbrev pub invariant-loop-i : goal.invariant-loop-i

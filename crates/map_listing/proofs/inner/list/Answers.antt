@@ -1,7 +1,6 @@
 -- The buffer is too short for 8 bytes for each position that was counted; or it has room for these, or for every rule and so for these,
 -- and all of them are written.
 use Prim.Native.Nat.{ℕ, ◌*◌, ◌≤◌}
-use mathlib.Core.Logic.{inl, inr}
 use mathlib.Core.List.{List}
 use native.Mathlib.Omega.{arith}
 use lib.ListN.{length}
@@ -11,7 +10,6 @@ use Rattle.map_form.proofs.MapTestLaws.{map_passed}
 use Rattle.listing_law.specs.Listings.{positions}
 use Rattle.map_listing.proofs.MeetingLaws.{positions_few, listed_short, listed_all}
 use Rattle.map_reading.proofs.RuleAtLaws.{rules_many, rules_few}
-use borrow.Author.Rules.{rules}
 use Rattle.map_listing.proofs.inner.list.Goals as goal
 use Rattle.map_listing.proofs.inner.list.Goals.{then-out-most+else-out-found, else-out-most}
 use Rattle.map_listing.proofs.inner.list.Goals.{Joined-out-most, Start}
@@ -25,7 +23,7 @@ few s = positions_few (area_in s.args.area s.args.base.now) (rules_in s.args.she
 -- there is room for all of them, whichever way it was found out
 room : (c : Joined-out-most) → 8 * length ((positions (area_in c.args.area c.args.base.now) (rules_in c.args.sheet.now))) ≤ length c.args.out.now
 room c = elim c.if-out-most.branch [
-    then-out-most+else-out-found w ↦ omega (arith, w.count_meeting-found.ensures, w.if-out-found.false)
+  | then-out-most+else-out-found w ↦ omega (arith, w.count_meeting-found.ensures, w.if-out-found.false)
   | else-out-most w ↦ omega (arith, w.if-out-most.false, c.read_u64-most.ensures, (positions_few (area_in c.args.area c.args.base.now) (rules_in c.args.sheet.now)), rules_many _ c.requires.0)
 ]
 

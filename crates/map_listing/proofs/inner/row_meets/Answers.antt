@@ -10,7 +10,6 @@ use Rattle.listing_law.specs.Listings.{meets}
 use Rattle.map_reading.specs.Rules.{rule_at}
 use Rattle.map_listing.proofs.MeetsLaws.{is_answered, met_meets}
 use Rattle.map_reading.proofs.RuleAtLaws.{rule_at_lem, area_whole}
-use borrow.Author.Rules.{rules}
 use Rattle.map_listing.proofs.inner.row_meets.Goals as goal
 use Rattle.map_listing.proofs.inner.row_meets.Goals.{After-intersection, After-rule_area-rule}
 

@@ -1,13 +1,11 @@
 use Prim.Native.Nat.{◌-◌, ◌<◌}
 use mathlib.Core.Path.{◌≡◌, sym, ◌∙◌}
-use mathlib.Core.Logic.{inl, inr}
 use native.Mathlib.Omega.{arith}
 use borrow.Author.Rules.{rules}
 use lib.ListN.{length}
-use Rattle.area.specs.LentAreas.{area_in}
 use Rattle.map_form.specs.Maps.{rules_in}
 use Rattle.map_form.proofs.MapTestLaws.{map_passed}
-use Rattle.map_listing.proofs.MeetingLaws.{Writing, writing_starts, room_here, writes, writes_none, places_all, written_all}
+use Rattle.map_listing.proofs.MeetingLaws.{writing_starts, room_here, writes, writes_none, places_all, written_all}
 use Rattle.map_reading.proofs.RuleAtLaws.{rules_many, rules_few}
 use Rattle.map_listing.proofs.inner.write_meeting.Goals as goal
 use Rattle.map_listing.proofs.inner.write_meeting.Goals.{then-row_meets, else-row_meets}
@@ -42,7 +40,7 @@ loop-i-smaller c = omega (arith, c.loop-i-test.true)
 
 pub loop-i-preserved : goal.loop-i-preserved
 loop-i-preserved c = elim c.if-row_meets.branch [
-    then-row_meets w ↦ rw (w.out-is, w.at-is) (writes _ _ _ _ _ _ c.loop-i.invariant (below (goal.at.loop-i-preserved c).In-loop-i) (sym c.row_meets.ensures ∙ w.if-row_meets.true) _ w.write_u64.ensures)
+  | then-row_meets w ↦ rw (w.out-is, w.at-is) (writes _ _ _ _ _ _ c.loop-i.invariant (below (goal.at.loop-i-preserved c).In-loop-i) (sym c.row_meets.ensures ∙ w.if-row_meets.true) _ w.write_u64.ensures)
   | else-row_meets w ↦ rw (w.out-is, w.at-is) (writes_none _ _ _ _ _ _ c.loop-i.invariant (below (goal.at.loop-i-preserved c).In-loop-i) (sym c.row_meets.ensures ∙ w.if-row_meets.false))
 ]
 

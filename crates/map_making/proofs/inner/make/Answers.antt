@@ -2,7 +2,6 @@
 use mathlib.Core.Path.{◌∙◌, ap}
 use Rattle.number.specs.Overwriting.{overwrite, zeros}
 use Rattle.map_law.proofs.FreshLaws.{fresh_small, fresh_written, fresh_made}
-use borrow.Author.Rules.{rules}
 use Rattle.map_making.proofs.inner.make.Goals as goal
 
 pub returns-then-out-length : goal.returns-then-out-length

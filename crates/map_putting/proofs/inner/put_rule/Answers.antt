@@ -5,7 +5,6 @@ use Rattle.willow.proofs.PackedLaws.{pack_length}
 use Rattle.packed.proofs.PrefixLaws.{front}
 use Rattle.willow.specs.Answers.{path_in}
 use Rattle.map_putting.proofs.PutLaws.{RowFree, row_free, rule_put}
-use borrow.Author.Rules.{rules}
 use Rattle.map_putting.proofs.inner.put_rule.Goals as goal
 use Rattle.map_putting.proofs.inner.put_rule.Goals.{Start}
 

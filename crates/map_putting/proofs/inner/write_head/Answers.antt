@@ -1,6 +1,5 @@
 -- Six numbers of 8 bytes fill the head, and they are those of the rule.
 use Rattle.map_putting.proofs.PutLaws.{six_numbers}
-use borrow.Author.Rules.{rules}
 use Rattle.map_putting.proofs.inner.write_head.Goals as goal
 
 pub returns : goal.returns

@@ -6,7 +6,6 @@ use Rattle.map_rules.specs.RulePlaces.{map_row}
 use Rattle.map_rules.proofs.RowReadLaws.{part_long, part_counted}
 use Rattle.map_reading.specs.Rules.{rule_parts}
 use Rattle.map_reading.proofs.RuleAtLaws.{rule_at_lem, rule_parts_lem}
-use borrow.Author.Rules.{rules}
 use Rattle.map_reading.proofs.inner.rule.Goals as goal
 
 pub read_u64-count-requires : goal.read_u64-count-requires

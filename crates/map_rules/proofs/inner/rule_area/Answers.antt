@@ -3,7 +3,6 @@ use mathlib.Core.Path.{◌≡◌, ◌∙◌, ap}
 use native.Mathlib.Omega.{arith}
 use lib.ListN.{length}
 use Rattle.map_rules.proofs.RowReadLaws.{RuleThere, rule_there, head_long, area_read_lem}
-use borrow.Author.Rules.{rules}
 use Rattle.map_rules.proofs.inner.rule_area.Goals as goal
 use Rattle.map_rules.proofs.inner.rule_area.Goals.{After-record_part-head, Start}
 

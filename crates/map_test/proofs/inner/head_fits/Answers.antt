@@ -1,7 +1,6 @@
 -- The first kind with its number, then the second.
 use mathlib.Core.Path.{sym, ◌∙◌}
 use Rattle.map_test.proofs.WayLaws.{head_refused, head_by_end}
-use borrow.Author.Rules.{rules}
 use Rattle.map_test.proofs.inner.head_fits.Goals as goal
 
 pub returns-then-kind_fits : goal.returns-then-kind_fits

@@ -7,7 +7,6 @@ use Rattle.willow.specs.declared.Limits.{Limits}
 use Rattle.map_form.specs.Maps.{sizes_in}
 use Rattle.map_form.specs.MapTest.{sizes_fit}
 use Rattle.map_test.proofs.WayLaws.{Small, sizes_small, map_length_is, map_short, sizes_refused, map_cut, map_by_rows}
-use borrow.Author.Rules.{rules}
 use Rattle.map_test.proofs.inner.is_map.Goals as goal
 use Rattle.map_test.proofs.inner.is_map.Goals.{After-read_u64-3, Then-sizes_fit}
 

@@ -6,7 +6,6 @@ use Rattle.number.proofs.RecordLaws.{length_record}
 use Rattle.map_form.specs.MapTest.{head_fits}
 use Rattle.sheet.specs.Cells.{cell_fits}
 use Rattle.map_test.proofs.WayLaws.{RowInside, row_inside, row_refused, row_by_cell}
-use borrow.Author.Rules.{rules}
 use Rattle.map_test.proofs.inner.row_fits.Goals as goal
 use Rattle.map_test.proofs.inner.row_fits.Goals.{Start}
 

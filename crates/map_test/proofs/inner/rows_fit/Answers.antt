@@ -3,7 +3,6 @@ use mathlib.Core.Path.{◌≡◌, sym, ◌∙◌}
 use mathlib.Core.Bool.{true, false}
 use native.Mathlib.Omega.{arith}
 use Rattle.map_test.proofs.WayLaws.{used_fit, Ends, ends, rows_refused, heads_stale, rows_by_cells}
-use borrow.Author.Rules.{rules}
 use Rattle.map_test.proofs.inner.rows_fit.Goals as goal
 use Rattle.map_test.proofs.inner.rows_fit.Goals.{Else-used_fit, Start, Then-used_fit}
 

@@ -1,7 +1,6 @@
 -- One law for each way out: by the limits, by the capacity, or as the number of rows in use says.
 use mathlib.Core.Path.{sym, ◌∙◌}
 use Rattle.map_test.proofs.WayLaws.{limits_refused, capacity_refused, sizes_by_count}
-use borrow.Author.Rules.{rules}
 use Rattle.map_test.proofs.inner.sizes_fit.Goals as goal
 
 pub returns-then-capacity_accepted : goal.returns-then-capacity_accepted

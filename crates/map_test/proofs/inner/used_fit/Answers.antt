@@ -1,10 +1,8 @@
 use Prim.Native.Nat.{◌-◌, ◌≤◌}
-use mathlib.Core.Path.{◌≡◌, refl, sym, ◌∙◌}
+use mathlib.Core.Path.{refl, sym, ◌∙◌}
 use native.Mathlib.Omega.{arith}
-use lib.ListN.{length, take, drop}
-use borrow.Author.Rules.{rules}
+use lib.ListN.{length}
 use Rattle.sheet.specs.Rows.{rows_of}
-use Rattle.willow.specs.Lists.{every}
 use Rattle.map_form.specs.MapTest.{row_fits}
 use Rattle.map_test.proofs.EveryLaws.{every_passes, every_fails, every_end}
 use Rattle.map_test.proofs.WayLaws.{shape_of, rows_count}

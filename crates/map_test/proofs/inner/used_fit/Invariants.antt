@@ -1,14 +1,11 @@
 -- The test of the rows from i on is the test of all n: each turn takes the first of them.
 use Prim.Native.Nat.{◌-◌, ◌≤◌}
-use mathlib.Core.Path.{◌≡◌, refl, sym, ◌∙◌}
-use native.Mathlib.Omega.{arith}
-use lib.ListN.{length, take, drop}
-use borrow.Author.Rules.{rules}
+use mathlib.Core.Path.{◌≡◌}
+use lib.ListN.{take, drop}
 use Rattle.sheet.specs.Rows.{rows_of}
 use Rattle.willow.specs.Lists.{every}
 use Rattle.map_form.specs.MapTest.{row_fits}
-use Rattle.map_test.proofs.EveryLaws.{every_passes, every_fails, every_end}
-use Rattle.map_test.proofs.WayLaws.{shape_of, rows_count}
+use Rattle.map_test.proofs.WayLaws.{shape_of}
 use Rattle.map_test.proofs.inner.used_fit.Given as goal
 
 abbrev pub invariant-loop-i : goal.invariant-loop-i

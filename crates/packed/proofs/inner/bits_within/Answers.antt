@@ -1,6 +1,6 @@
-use Rattle.std.proofs.Common.{◌≡◌, ℕ, ◌+◌, ◌-◌, ◌*◌, ◌≤◌, false, sym, refl, ◌∙◌, arith, rules, le-leb, leb-true}
+use Rattle.std.proofs.Common.{ℕ, ◌-◌, false, sym, refl, ◌∙◌, arith, le-leb, leb-true}
 use Rattle.willow.proofs.Bools.{false_not_true}
-use Rattle.packed.proofs.StepLaws.{Passed, passed_none, passed_on, steps_end}
+use Rattle.packed.proofs.StepLaws.{passed_none, passed_on, steps_end}
 use Rattle.packed.proofs.inner.bits_within.Goals as goal
 
 pub returns-then-mcl-gt4294967295 : goal.returns-then-mcl-gt4294967295

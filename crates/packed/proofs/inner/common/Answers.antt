@@ -1,4 +1,4 @@
-use Rattle.std.proofs.Common.{◌≡◌, suc, ◌+◌, ◌-◌, ◌≤◌, Bool, true, false, cond, drop, sym, ap, ◌∙◌, arith, rules}
+use Rattle.std.proofs.Common.{◌≡◌, suc, ◌+◌, ◌-◌, Bool, true, false, cond, drop, sym, ap, ◌∙◌, arith}
 use Rattle.willow.specs.Answers.{path_in}
 use Rattle.willow.specs.Paths.{common_count}
 use Rattle.packed.proofs.WalkLaws.{common_turn, common_ended, common_short}

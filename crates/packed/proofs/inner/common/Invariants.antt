@@ -1,8 +1,7 @@
 -- The components below i are common, and from i on as many more are as is left to find: the walk ends where none is.
-use Rattle.std.proofs.Common.{◌≡◌, suc, ◌+◌, ◌-◌, ◌≤◌, Bool, true, false, cond, drop, sym, ap, ◌∙◌, arith, rules}
+use Rattle.std.proofs.Common.{◌≡◌, ◌+◌, ◌-◌, ◌≤◌, drop}
 use Rattle.willow.specs.Answers.{path_in}
 use Rattle.willow.specs.Paths.{common_count}
-use Rattle.packed.proofs.WalkLaws.{common_turn, common_ended, common_short}
 use Rattle.packed.proofs.inner.common.Given as goal
 
 abbrev pub invariant-loop-i : goal.invariant-loop-i

@@ -1,11 +1,7 @@
 -- From i on the two compare as from the start, so that the first components that differ, or the end of one path, decide.
-use Rattle.std.proofs.Common.{◌≡◌, ◌+◌, ◌-◌, ◌≤◌, drop, sym, refl, ◌∙◌, arith, rules}
-use Rattle.willow.specs.declared.Order.{Order}
-use Rattle.willow.specs.declared.Order.TheVariants.{Less, Equal, Greater}
+use Rattle.std.proofs.Common.{◌≡◌, ◌-◌, ◌≤◌, drop}
 use Rattle.willow.specs.Answers.{path_in}
-use Rattle.willow.specs.Orders.{then}
 use Rattle.willow.specs.Paths.{compare_paths}
-use Rattle.packed.proofs.WalkLaws.{compare_turn, compare_longer, compare_shorter, compare_ended}
 use Rattle.packed.proofs.inner.compare.Given as goal
 
 abbrev pub invariant-loop-i : goal.invariant-loop-i

@@ -1,5 +1,5 @@
 -- The component is the bytes between the accumulated lengths before and behind it, and these lie inside the buffer.
-use Rattle.std.proofs.Common.{◌≡◌, ℕ, suc, ◌+◌, ◌-◌, ◌*◌, ◌<◌, ◌≤◌, List, [], length, get_or, take, drop, sym, refl, add-one, arith, rules}
+use Rattle.std.proofs.Common.{◌≡◌, ℕ, suc, ◌+◌, ◌-◌, ◌*◌, ◌<◌, ◌≤◌, List, [], length, get_or, take, drop, sym, refl, add-one, arith}
 use Rattle.willow.specs.Packed.{packed_count, length_before, unpack, widest, Packed}
 use Rattle.willow.proofs.PackedLaws.{tested}
 use Rattle.willow.proofs.PackedPlaces.{place}

@@ -1,5 +1,5 @@
 -- Two paths of one count are equal exactly if all components are common; of different counts they are not.
-use Rattle.std.proofs.Common.{sym, rules}
+use Rattle.std.proofs.Common.{sym}
 use Rattle.packed.proofs.WalkLaws.{not_equal, equal_counted}
 use Rattle.packed.proofs.inner.is_equal.Goals as goal
 

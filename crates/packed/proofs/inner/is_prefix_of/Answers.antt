@@ -1,5 +1,5 @@
 -- The first is a prefix exactly if all of its components are common.
-use Rattle.std.proofs.Common.{sym, rules}
+use Rattle.std.proofs.Common.{sym}
 use Rattle.packed.proofs.WalkLaws.{not_prefix, prefix_counted}
 use Rattle.packed.proofs.inner.is_prefix_of.Goals as goal
 

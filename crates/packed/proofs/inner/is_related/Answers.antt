@@ -1,5 +1,5 @@
 -- One of the two is a prefix of the other exactly if all components of the first, or all of the second, are common.
-use Rattle.std.proofs.Common.{◌≡◌, ◌||◌, eqb, sym, ◌∙◌, rules, eq-eqb, ne_eqb}
+use Rattle.std.proofs.Common.{◌≡◌, ◌||◌, eqb, sym, ◌∙◌, eq-eqb, ne_eqb}
 use Rattle.willow.specs.Answers.{path_in}
 use Rattle.willow.specs.Paths.{is_related}
 use Rattle.packed.proofs.WalkLaws.{related_counted}

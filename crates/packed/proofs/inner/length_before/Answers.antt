@@ -1,5 +1,5 @@
 -- Before component 0 there is nothing; before any other stands number i of the table, which begins at 8.
-use Rattle.std.proofs.Common.{sym, ◌∙◌, rules}
+use Rattle.std.proofs.Common.{sym, ◌∙◌}
 use Rattle.packed.proofs.PrefixLaws.{length_before_more}
 use Rattle.packed.proofs.inner.length_before.Goals as goal
 

@@ -1,5 +1,5 @@
 -- The count, the front of the table and the front of the bytes are written one behind the other: together the packed prefix.
-use Rattle.std.proofs.Common.{arith, length-drop, length-take, rules}
+use Rattle.std.proofs.Common.{arith, length-drop, length-take}
 use Rattle.willow.proofs.NumberLaws.{bytes_by_index}
 use Rattle.packed.proofs.PrefixLaws.{Front, front, prefix_written}
 use Rattle.packed.proofs.inner.put_prefix.Goals as goal

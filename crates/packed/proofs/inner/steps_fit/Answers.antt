@@ -1,5 +1,5 @@
 -- One law for each way out: as the steps say, or another number of bytes than the last accumulated length says.
-use Rattle.std.proofs.Common.{sym, ◌∙◌, rules}
+use Rattle.std.proofs.Common.{sym, ◌∙◌}
 use Rattle.packed.proofs.StepLaws.{fit_steps, fit_bytes}
 use Rattle.packed.proofs.inner.steps_fit.Goals as goal
 

@@ -1,5 +1,4 @@
-use Rattle.std.proofs.Common.{◌≡◌, ℕ, ◌+◌, ◌-◌, ◌*◌, sym, refl, ◌∙◌, arith, rules}
-use Rattle.packed.specs.Steps.{steps_within}
+use Rattle.std.proofs.Common.{ℕ, ◌-◌, sym, refl, ◌∙◌, arith}
 use Rattle.packed.proofs.StepLaws.{steps_fall, steps_wide, steps_on, steps_end}
 use Rattle.packed.proofs.inner.steps_within.Goals as goal
 

@@ -1,8 +1,7 @@
 -- What is left to test from a place on decides as the whole does; each way through the body is one law. Where the bits of the steps
 -- already decided, they did so rightly.
-use Rattle.std.proofs.Common.{◌≡◌, ℕ, ◌+◌, ◌-◌, ◌*◌, sym, refl, ◌∙◌, arith, rules}
+use Rattle.std.proofs.Common.{◌≡◌, ℕ, ◌+◌, ◌-◌, ◌*◌}
 use Rattle.packed.specs.Steps.{steps_within}
-use Rattle.packed.proofs.StepLaws.{steps_fall, steps_wide, steps_on, steps_end}
 use Rattle.packed.proofs.inner.steps_within.Given as goal
 
 abbrev pub invariant-loop-at : goal.invariant-loop-at

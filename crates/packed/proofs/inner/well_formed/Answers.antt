@@ -1,5 +1,5 @@
 -- One law for each way out: too short, too many, cut off, or as the steps say.
-use Rattle.std.proofs.Common.{sym, ◌∙◌, arith, rules}
+use Rattle.std.proofs.Common.{sym, ◌∙◌, arith}
 use Rattle.packed.proofs.FormLaws.{formed_short, formed_many, formed_cut, formed_steps}
 use Rattle.packed.proofs.inner.well_formed.Goals as goal
 

@@ -1,7 +1,6 @@
 -- A closed end is tested as its path, and beside an open one the limits alone are.
 use mathlib.Core.Path.{sym, ◌∙◌}
 use Rattle.path_bounds.proofs.LentPathLaws.{no_path_lem, one_path}
-use borrow.Author.Rules.{rules}
 use Rattle.path_bounds.proofs.inner.test_end.Goals as goal
 
 pub returns-in-Closed : goal.returns-in-Closed

@@ -1,7 +1,6 @@
 -- The refusal of the end's path, or else that of the path.
 use mathlib.Core.Path.{sym, ◌∙◌}
 use Rattle.path_bounds.proofs.LentPathLaws.{one_path, joined_refused, joined_second}
-use borrow.Author.Rules.{rules}
 use Rattle.path_bounds.proofs.inner.test_end_and_path.Goals as goal
 
 pub returns-in-Refused : goal.returns-in-Refused

@@ -1,7 +1,6 @@
 -- The refusal of the first end's path, or else that of the second's.
 use mathlib.Core.Path.{◌∙◌}
 use Rattle.path_bounds.proofs.LentPathLaws.{joined_refused, joined_second}
-use borrow.Author.Rules.{rules}
 use Rattle.path_bounds.proofs.inner.test_ends.Goals as goal
 
 pub returns-in-Refused : goal.returns-in-Refused

@@ -1,7 +1,6 @@
 -- Accepted limits pass, and others are refused by 1.
 use mathlib.Core.Path.{sym, ◌∙◌}
 use Rattle.path_bounds.proofs.LentPathLaws.{limits_pass, limits_fail}
-use borrow.Author.Rules.{rules}
 use Rattle.path_bounds.proofs.inner.test_limits.Goals as goal
 
 pub returns-then-limits_accepted : goal.returns-then-limits_accepted

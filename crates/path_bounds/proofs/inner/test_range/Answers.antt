@@ -2,7 +2,6 @@
 use mathlib.Core.Path.{sym, ◌∙◌}
 use mathlib.Core.List.{[], ◌∷◌}
 use Rattle.path_bounds.proofs.LentPathLaws.{one_path, joined_refused, joined_second}
-use borrow.Author.Rules.{rules}
 use Rattle.path_bounds.proofs.inner.test_range.Goals as goal
 
 pub returns-in-Refused : goal.returns-in-Refused

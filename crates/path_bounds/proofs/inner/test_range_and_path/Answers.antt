@@ -2,7 +2,6 @@
 use mathlib.Core.Path.{sym, ◌∙◌}
 use Rattle.path_bounds.specs.LentRanges.{range_paths}
 use Rattle.path_bounds.proofs.LentPathLaws.{one_path, joined_refused, joined_second}
-use borrow.Author.Rules.{rules}
 use Rattle.path_bounds.proofs.inner.test_range_and_path.Goals as goal
 
 pub returns-in-Refused : goal.returns-in-Refused

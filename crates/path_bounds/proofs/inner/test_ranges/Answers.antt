@@ -2,7 +2,6 @@
 use mathlib.Core.Path.{◌∙◌}
 use Rattle.path_bounds.specs.LentRanges.{range_paths}
 use Rattle.path_bounds.proofs.LentPathLaws.{joined_refused, joined_second}
-use borrow.Author.Rules.{rules}
 use Rattle.path_bounds.proofs.inner.test_ranges.Goals as goal
 
 pub returns-in-Refused : goal.returns-in-Refused

@@ -4,7 +4,6 @@ use Rattle.willow.specs.declared.Order.TheVariants.{Less, Equal, Greater}
 use Rattle.willow.specs.Paths.{compare_paths}
 use Rattle.path_bounds.specs.LentRanges.{path_range_of}
 use Rattle.path_orders.proofs.BoundLaws.{ordered_by}
-use borrow.Author.Rules.{rules}
 use Rattle.path_orders.proofs.inner.compare.Goals as goal
 
 pub returns-in-Less : goal.returns-in-Less

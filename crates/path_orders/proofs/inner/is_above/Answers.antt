@@ -2,7 +2,6 @@
 use mathlib.Core.Path.{sym, ◌∙◌, ap}
 use Rattle.willow.specs.Orders.{is_greater}
 use Rattle.path_bounds.proofs.LentPathLaws.{closed_readable}
-use borrow.Author.Rules.{rules}
 use Rattle.path_orders.proofs.inner.is_above.Goals as goal
 
 pub compare-requires : goal.compare-requires

@@ -1,6 +1,5 @@
 -- A closed end is compared as its path; an open one is above every path.
 use Rattle.path_bounds.proofs.LentPathLaws.{closed_readable}
-use borrow.Author.Rules.{rules}
 use Rattle.path_orders.proofs.inner.order_end.Goals as goal
 
 pub compare-requires : goal.compare-requires

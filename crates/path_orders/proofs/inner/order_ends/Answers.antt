@@ -1,6 +1,5 @@
 -- Two closed ends are compared as their paths; the other cases are computed.
 use Rattle.path_bounds.proofs.LentPathLaws.{closed_readable}
-use borrow.Author.Rules.{rules}
 use Rattle.path_orders.proofs.inner.order_ends.Goals as goal
 
 pub compare-requires : goal.compare-requires

@@ -1,5 +1,4 @@
 -- The end that stands is the one that is asked; an open one is above every path.
-use borrow.Author.Rules.{rules}
 use Rattle.path_range_intersection.proofs.inner.is_above.Goals as goal
 
 pub returns-in-First : goal.returns-in-First

@@ -4,7 +4,6 @@ use Rattle.willow.specs.declared.Order.TheVariants.{Less, Equal, Greater}
 use Rattle.willow.specs.Answers.{path_in}
 use Rattle.willow.specs.Paths.{compare_paths}
 use Rattle.path_range_intersection.proofs.SidesLaws.{later_by}
-use borrow.Author.Rules.{rules}
 use Rattle.path_range_intersection.proofs.inner.later_start.Goals as goal
 
 pub returns-in-Less : goal.returns-in-Less

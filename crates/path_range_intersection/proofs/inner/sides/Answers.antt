@@ -22,8 +22,8 @@ tested c =
     let q = path_in a.s2.now a.range2.start in
     let e = end_at c.sooner_end-ending.result (path_end_of a.range.end a.e.now) (path_end_of a.range2.end a.e2.now) in
     elim c.match-side.branch [
-      in-First w ↦ above_start compare_paths p q e _ First _ w.in-First.is (w.met-is ∙ w.is_above-met.ensures)
-    | in-Second w ↦ above_start compare_paths p q e _ Second _ w.in-Second.is (w.met-is ∙ w.is_above-met-in-Second.ensures)
+      | in-First w ↦ above_start compare_paths p q e _ First _ w.in-First.is (w.met-is ∙ w.is_above-met.ensures)
+      | in-Second w ↦ above_start compare_paths p q e _ Second _ w.in-Second.is (w.met-is ∙ w.is_above-met-in-Second.ensures)
     ]
 
 pub returns-then-met : goal.returns-then-met

@@ -4,7 +4,6 @@ use Rattle.willow.specs.declared.Order.TheVariants.{Less, Equal, Greater}
 use Rattle.willow.specs.Paths.{compare_paths}
 use Rattle.path_bounds.specs.LentRanges.{path_end_of}
 use Rattle.path_range_intersection.proofs.SidesLaws.{second_as, sooner_by}
-use borrow.Author.Rules.{rules}
 use Rattle.path_range_intersection.proofs.inner.sooner_end.Goals as goal
 
 pub returns-in-Less : goal.returns-in-Less

@@ -3,7 +3,6 @@ use mathlib.Core.Path.{◌∙◌, ap}
 use Rattle.willow.specs.Refusals.{value}
 use Rattle.entry.proofs.HeadLaws.{decided}
 use Rattle.range_3d_answers.proofs.LentRange3dLaws.{first_asked, first_found}
-use borrow.Author.Rules.{rules}
 use Rattle.range_3d_answers.proofs.inner.compare.Goals as goal
 
 pub returns-in-Refused : goal.returns-in-Refused

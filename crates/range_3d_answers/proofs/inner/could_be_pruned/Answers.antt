@@ -3,7 +3,6 @@ use mathlib.Core.Path.{◌∙◌, ap}
 use Rattle.willow.specs.Refusals.{value}
 use Rattle.area.proofs.LentAreaLaws.{first_fails, second_fails, third_decides, not_above, above}
 use Rattle.range_3d_answers.proofs.LentRange3dLaws.{tested_as, prunable_tests}
-use borrow.Author.Rules.{rules}
 use Rattle.range_3d_answers.proofs.inner.could_be_pruned.Goals as goal
 
 pub returns-then-times-timestamp : goal.returns-then-times-timestamp

@@ -3,7 +3,6 @@ use mathlib.Core.Path.{sym, ◌∙◌, ap}
 use Rattle.willow.specs.Refusals.{value}
 use Rattle.area.proofs.LentAreaLaws.{first_fails, second_fails, third_decides}
 use Rattle.range_3d_answers.proofs.LentRange3dLaws.{tested_as, range_tests}
-use borrow.Author.Rules.{rules}
 use Rattle.range_3d_answers.proofs.inner.includes_range.Goals as goal
 
 pub returns-then-includes_range : goal.returns-then-includes_range

@@ -1,7 +1,6 @@
 -- One equation for each of the three tests that says yes, and the last one where none before it does.
 use mathlib.Core.Path.{sym, ◌∙◌}
 use Rattle.range_3d_answers.proofs.LentRange3dLaws.{reaches_included, reaches_above, reaches_below}
-use borrow.Author.Rules.{rules}
 use Rattle.range_3d_answers.proofs.inner.reaches.Goals as goal
 
 pub returns-then-includes : goal.returns-then-includes

@@ -3,7 +3,6 @@ use mathlib.Core.Path.{refl}
 use Rattle.range.specs.NumberRanges as numbers
 use Rattle.path_range_intersection.specs.Sides as paths
 use Rattle.range_3d_intersection.proofs.Sides3dLaws.{stands, found}
-use borrow.Author.Rules.{rules}
 use Rattle.range_3d_intersection.proofs.inner.sides.Goals as goal
 
 pub returns-in-Refused : goal.returns-in-Refused

@@ -1,7 +1,6 @@
 -- One range for any subspace, and two for an id: it has a successor, or none.
 use Rattle.range_3d_intersection.proofs.ConversionLaws.{range_of_any, range_of_id, range_of_last}
 use native.Mathlib.Omega.{arith}
-use borrow.Author.Rules.{rules}
 use Rattle.range_3d_intersection.proofs.inner.subspace_range.Goals as goal
 
 pub returns-in-Any : goal.returns-in-Any

@@ -1,7 +1,6 @@
 -- A closed end is above a value if the order of numbers says greater.
 use mathlib.Core.Path.{sym}
 use Rattle.range_end.proofs.NumberTests.{greater_test}
-use borrow.Author.Rules.{rules}
 use Rattle.range_end.proofs.inner.is_above.Goals as goal
 
 pub returns-in-Closed : goal.returns-in-Closed

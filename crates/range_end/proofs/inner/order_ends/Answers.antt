@@ -1,5 +1,4 @@
 -- Two closed ends compare as their numbers; the other cases are computed.
-use borrow.Author.Rules.{rules}
 use Rattle.range_end.proofs.inner.order_ends.Goals as goal
 
 pub returns-in-Closed-b : goal.returns-in-Closed-b

@@ -2,7 +2,6 @@
 use Prim.Native.Nat.{◌+◌, ◌-◌, ◌*◌}
 use mathlib.Core.Path.{◌∙◌, ap}
 use native.Mathlib.Omega.{arith}
-use borrow.Author.Rules.{rules}
 use Rattle.number.specs.Overwriting.{overwrite, zeros}
 use Rattle.row_moves.specs.Shapes.{shape_of}
 use Rattle.row_moves.proofs.PlaceLaws.{Place, place}

@@ -1,7 +1,6 @@
 -- The heads and then the cells, each one move of bytes: together the rows are moved.
 use mathlib.Core.Path.{◌∙◌}
 use native.Mathlib.Omega.{arith}
-use borrow.Author.Rules.{rules}
 use Rattle.row_moves.specs.Shapes.{shape_of}
 use Rattle.row_moves.proofs.PlaceLaws.{Down, down}
 use Rattle.sheet.proofs.RowLaws.{rows_moved}

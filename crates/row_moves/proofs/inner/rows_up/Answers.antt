@@ -2,7 +2,6 @@
 use Prim.Native.Nat.{◌+◌, ◌*◌}
 use mathlib.Core.Path.{◌≡◌, ◌∙◌}
 use native.Mathlib.Omega.{arith}
-use borrow.Author.Rules.{rules}
 use Rattle.row_moves.specs.Shapes.{shape_of}
 use Rattle.row_moves.proofs.PlaceLaws.{Up, up}
 use Rattle.sheet.proofs.RowLaws.{rows_moved}

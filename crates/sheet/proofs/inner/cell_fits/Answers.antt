@@ -2,7 +2,6 @@
 use mathlib.Core.Path.{sym, ◌∙◌}
 use native.Mathlib.Omega.{arith}
 use Rattle.sheet.proofs.CellTestLaws.{cell_short, cell_cut, cell_over, cell_malformed, cell_formed}
-use borrow.Author.Rules.{rules}
 use Rattle.sheet.proofs.inner.cell_fits.Goals as goal
 
 pub returns-then-cell-lt8 : goal.returns-then-cell-lt8

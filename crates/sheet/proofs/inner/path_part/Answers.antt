@@ -2,7 +2,6 @@
 use Prim.Native.Nat.{◌+◌, ◌*◌}
 use mathlib.Core.Path.{◌≡◌}
 use native.Mathlib.Omega.{arith}
-use borrow.Author.Rules.{rules}
 use Rattle.sheet.specs.Cells.{used_bytes}
 use Rattle.sheet.proofs.CellTestLaws.{used_is, part_is}
 use Rattle.sheet.proofs.inner.path_part.Goals as goal

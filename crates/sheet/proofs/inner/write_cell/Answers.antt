@@ -1,6 +1,5 @@
 -- The packed path over the front of the cell and zeros from its end on: together the path's cell.
 use native.Mathlib.Omega.{arith}
-use borrow.Author.Rules.{rules}
 use Rattle.packed.proofs.PrefixLaws.{Front, front}
 use Rattle.sheet.proofs.CellTestLaws.{pack_prefix_length, cell_written}
 use Rattle.sheet.proofs.inner.write_cell.Goals as goal

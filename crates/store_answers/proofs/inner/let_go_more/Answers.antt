@@ -1,5 +1,4 @@
 -- One number is written.
-use borrow.Author.Rules.{rules}
 use Rattle.store_answers.proofs.inner.let_go_more.Goals as goal
 
 pub returns : goal.returns

@@ -1,16 +1,8 @@
-use Prim.Native.Nat.{ℕ, ◌-◌}
-use mathlib.Core.Bool.{Bool}
+use Prim.Native.Nat.{◌-◌}
 use mathlib.Core.Path.{◌∙◌}
-use mathlib.Core.List.{List}
 use native.Mathlib.Omega.{arith}
-use borrow.Author.Rules.{rules}
-use Rattle.willow.specs.Answers.{path_in}
 use Rattle.willow.proofs.NumberLaws.{bytes_by_index}
-use Rattle.entry.specs.declared.Head.{Head}
-use Rattle.entry.specs.Heads.{entry_at}
-use Rattle.sheet.specs.Rows.{Row}
-use Rattle.store_closing.specs.Filing.{stays_by}
-use Rattle.store_closing.proofs.PassLaws.{Pass, pass_begins, pass_on, pass_count, pass_cleared}
+use Rattle.store_closing.proofs.PassLaws.{pass_begins, pass_on, pass_count, pass_cleared}
 use Rattle.store_closing.proofs.inner.close_up.Goals as goal
 use Rattle.store_closing.proofs.inner.close_up.Invariants.{stays}
 

@@ -1,17 +1,13 @@
 -- What is left to look at and to clear gives from each row on what it gave from the first; after the last row only clearing is left.
 use Prim.Native.Nat.{ℕ, ◌-◌}
 use mathlib.Core.Bool.{Bool}
-use mathlib.Core.Path.{◌∙◌}
 use mathlib.Core.List.{List}
-use native.Mathlib.Omega.{arith}
-use borrow.Author.Rules.{rules}
 use Rattle.willow.specs.Answers.{path_in}
-use Rattle.willow.proofs.NumberLaws.{bytes_by_index}
 use Rattle.entry.specs.declared.Head.{Head}
 use Rattle.entry.specs.Heads.{entry_at}
 use Rattle.sheet.specs.Rows.{Row}
 use Rattle.store_closing.specs.Filing.{stays_by}
-use Rattle.store_closing.proofs.PassLaws.{Pass, pass_begins, pass_on, pass_count, pass_cleared}
+use Rattle.store_closing.proofs.PassLaws.{Pass}
 use Rattle.store_closing.proofs.inner.close_up.Given as goal
 
 abbrev pub stays : Head → List ℕ → ℕ → Row → Bool

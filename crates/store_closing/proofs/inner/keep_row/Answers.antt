@@ -1,6 +1,5 @@
 -- Where the offer prunes the row, nothing is done, nor where it stands in its place; else the one row is moved.
 use mathlib.Core.Path.{refl}
-use borrow.Author.Rules.{rules}
 use Rattle.store_closing.proofs.PassLaws.{stays_put}
 use Rattle.store_closing.proofs.inner.keep_row.Goals as goal
 

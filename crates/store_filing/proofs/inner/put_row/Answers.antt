@@ -3,7 +3,6 @@ use Prim.Native.Nat.{ℕ, ◌+◌, ◌-◌, ◌*◌, ◌≤◌}
 use mathlib.Core.Path.{◌≡◌, ◌∙◌, ap}
 use mathlib.Core.List.{List}
 use native.Mathlib.Omega.{arith}
-use borrow.Author.Rules.{rules}
 use Rattle.willow.specs.Answers.{path_in}
 use Rattle.number.proofs.RecordLaws.{mul_room}
 use Rattle.sheet.specs.Cells.{cell_size_of, path_cell}

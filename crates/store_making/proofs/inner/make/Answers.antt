@@ -3,7 +3,6 @@ use mathlib.Core.Path.{◌∙◌, ap}
 use Rattle.willow.specs.Store.{Sizes}
 use Rattle.number.specs.Overwriting.{overwrite, zeros}
 use Rattle.store_making.proofs.FreshLaws.{fresh_small, fresh_written, fresh_made}
-use borrow.Author.Rules.{rules}
 use Rattle.store_making.proofs.inner.make.Goals as goal
 use Rattle.store_making.proofs.inner.make.Goals.{Start}
 

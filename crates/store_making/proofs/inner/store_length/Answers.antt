@@ -1,7 +1,6 @@
 -- Within the bounds of the sizes no product wraps.
 use native.Mathlib.Omega.{arith}
 use Rattle.store_making.proofs.FreshLaws.{cells_small}
-use borrow.Author.Rules.{rules}
 use Rattle.store_making.proofs.inner.store_length.Goals as goal
 
 pub overflow_mul-result-2 : goal.overflow_mul-result-2

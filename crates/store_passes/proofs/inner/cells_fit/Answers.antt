@@ -1,12 +1,8 @@
-use Prim.Native.Nat.{◌-◌, ◌≤◌}
-use mathlib.Core.Path.{◌≡◌, refl, sym, ◌∙◌}
+use Prim.Native.Nat.{◌-◌}
+use mathlib.Core.Path.{refl, sym, ◌∙◌}
 use native.Mathlib.Omega.{arith}
-use lib.ListN.{drop}
-use borrow.Author.Rules.{rules}
 use Rattle.sheet.specs.Cells.{cell_fits}
-use Rattle.sheet.specs.Rows.{cell}
-use Rattle.willow.specs.Lists.{every}
-use Rattle.store_passes.proofs.LeftLaws.{used, cell_inside, cells_next, cells_stop, cells_end}
+use Rattle.store_passes.proofs.LeftLaws.{cell_inside, cells_next, cells_stop, cells_end}
 use Rattle.store_passes.proofs.inner.cells_fit.Goals as goal
 
 pub loop-i-init : goal.loop-i-init

@@ -1,13 +1,11 @@
 -- The cells of the rows from i on all fit if all do; each way through the body is one law of the first of them.
 use Prim.Native.Nat.{◌-◌, ◌≤◌}
-use mathlib.Core.Path.{◌≡◌, refl, sym, ◌∙◌}
-use native.Mathlib.Omega.{arith}
+use mathlib.Core.Path.{◌≡◌}
 use lib.ListN.{drop}
-use borrow.Author.Rules.{rules}
 use Rattle.sheet.specs.Cells.{cell_fits}
 use Rattle.sheet.specs.Rows.{cell}
 use Rattle.willow.specs.Lists.{every}
-use Rattle.store_passes.proofs.LeftLaws.{used, cell_inside, cells_next, cells_stop, cells_end}
+use Rattle.store_passes.proofs.LeftLaws.{used}
 use Rattle.store_passes.proofs.inner.cells_fit.Given as goal
 
 abbrev pub invariant-loop-i : goal.invariant-loop-i

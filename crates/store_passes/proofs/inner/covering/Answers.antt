@@ -1,7 +1,6 @@
-use Prim.Native.Nat.{◌≤◌, ◌-◌}
+use Prim.Native.Nat.{◌-◌}
 use mathlib.Core.Path.{◌≡◌, refl, sym, ◌∙◌, ap}
 use native.Mathlib.Omega.{arith}
-use borrow.Author.Rules.{rules}
 use Rattle.store_form.specs.Apart.{covering}
 use Rattle.store_rows.specs.EntryRows.{row_entry}
 use Rattle.store_passes.specs.Positions.{entries_at}

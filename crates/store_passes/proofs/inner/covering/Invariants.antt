@@ -1,12 +1,9 @@
 -- From the last position down: those that cover row i among the first that are left are those among all.
 use Prim.Native.Nat.{◌≤◌, ◌-◌}
-use mathlib.Core.Path.{◌≡◌, refl, sym, ◌∙◌, ap}
-use native.Mathlib.Omega.{arith}
-use borrow.Author.Rules.{rules}
+use mathlib.Core.Path.{◌≡◌}
 use Rattle.store_form.specs.Apart.{covering}
 use Rattle.store_rows.specs.EntryRows.{row_entry}
 use Rattle.store_passes.specs.Positions.{entries_at}
-use Rattle.store_passes.proofs.CarryLaws.{covering_stop, covering_next}
 use Rattle.store_passes.proofs.inner.covering.Given as goal
 
 abbrev pub invariant-loop-left : goal.invariant-loop-left

@@ -1,7 +1,6 @@
 -- The nearest is the entry of the last position.
 use Prim.Native.Nat.{◌-◌}
 use native.Mathlib.Omega.{arith}
-use borrow.Author.Rules.{rules}
 use Rattle.store_passes.proofs.CarryLaws.{nearest_last}
 use Rattle.store_passes.proofs.inner.nearest_older.Goals as goal
 

@@ -1,10 +1,7 @@
-use Prim.Native.Nat.{◌-◌, ◌≤◌}
-use mathlib.Core.Path.{◌≡◌, refl, sym, ◌∙◌}
+use Prim.Native.Nat.{◌-◌}
+use mathlib.Core.Path.{refl, sym, ◌∙◌}
 use native.Mathlib.Omega.{arith}
-use lib.ListN.{drop}
-use borrow.Author.Rules.{rules}
-use Rattle.store_form.specs.Apart.{ascends}
-use Rattle.store_passes.proofs.LeftLaws.{entries, ascends_next, ascends_stop, ascends_end}
+use Rattle.store_passes.proofs.LeftLaws.{ascends_next, ascends_stop, ascends_end}
 use Rattle.store_passes.proofs.inner.rows_ascend.Goals as goal
 
 pub loop-i-init : goal.loop-i-init

@@ -1,11 +1,9 @@
 -- The entries from row i on ascend if all do: row i is below the next, and those from the next on ascend.
 use Prim.Native.Nat.{◌-◌, ◌≤◌}
-use mathlib.Core.Path.{◌≡◌, refl, sym, ◌∙◌}
-use native.Mathlib.Omega.{arith}
+use mathlib.Core.Path.{◌≡◌}
 use lib.ListN.{drop}
-use borrow.Author.Rules.{rules}
 use Rattle.store_form.specs.Apart.{ascends}
-use Rattle.store_passes.proofs.LeftLaws.{entries, ascends_next, ascends_stop, ascends_end}
+use Rattle.store_passes.proofs.LeftLaws.{entries}
 use Rattle.store_passes.proofs.inner.rows_ascend.Given as goal
 
 abbrev pub invariant-loop-i : goal.invariant-loop-i

@@ -1,7 +1,6 @@
 use Prim.Native.Nat.{ℕ, ◌-◌}
 use lib.ListN.{length-replicate}
-use borrow.Author.Rules.{rules}
-use Rattle.store_passes.proofs.CarryLaws.{Carrying, Turn, carry_start, carry_end, turn_positions, turn_room, turn_stop, turn_next}
+use Rattle.store_passes.proofs.CarryLaws.{Turn, carry_start, carry_end, turn_positions, turn_room, turn_stop, turn_next}
 use Rattle.store_passes.proofs.inner.rows_clear.Goals as goal
 use Rattle.store_passes.proofs.inner.rows_clear.Goals.{After-covering-depth}
 

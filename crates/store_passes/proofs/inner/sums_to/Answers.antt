@@ -1,15 +1,7 @@
-use Prim.Native.Nat.{◌-◌, ◌≤◌}
-use mathlib.Core.Path.{◌≡◌, refl, sym, ◌∙◌}
+use Prim.Native.Nat.{◌-◌}
+use mathlib.Core.Path.{refl, sym, ◌∙◌}
 use native.Mathlib.Omega.{arith}
-use lib.Dec.{eqb}
-use lib.ListN.{drop}
-use borrow.Author.Rules.{rules}
-use Rattle.willow.specs.declared.Limits.{Limits}
-use Rattle.willow.specs.Store.{payloads}
-use Rattle.sheet.specs.Rows.{Room}
-use Rattle.store_form.specs.Stores.{store_shape}
-use Rattle.store_rows.specs.EntryRows.{sizes_of}
-use Rattle.store_passes.proofs.LeftLaws.{entries, head_long, sum_over, sum_next, sum_end}
+use Rattle.store_passes.proofs.LeftLaws.{head_long, sum_over, sum_next, sum_end}
 use Rattle.store_passes.proofs.inner.sums_to.Goals as goal
 
 pub loop-i-init : goal.loop-i-init

@@ -1,16 +1,14 @@
 -- The payload lengths from row i on are what is left of the held bytes if all are the held bytes. Limits play no part in it, so the loop\ncarries it for any.
 use Prim.Native.Nat.{◌-◌, ◌≤◌}
-use mathlib.Core.Path.{◌≡◌, refl, sym, ◌∙◌}
-use native.Mathlib.Omega.{arith}
+use mathlib.Core.Path.{◌≡◌}
 use lib.Dec.{eqb}
 use lib.ListN.{drop}
-use borrow.Author.Rules.{rules}
 use Rattle.willow.specs.declared.Limits.{Limits}
 use Rattle.willow.specs.Store.{payloads}
 use Rattle.sheet.specs.Rows.{Room}
 use Rattle.store_form.specs.Stores.{store_shape}
 use Rattle.store_rows.specs.EntryRows.{sizes_of}
-use Rattle.store_passes.proofs.LeftLaws.{entries, head_long, sum_over, sum_next, sum_end}
+use Rattle.store_passes.proofs.LeftLaws.{entries}
 use Rattle.store_passes.proofs.inner.sums_to.Given as goal
 
 abbrev pub invariant-loop-i : goal.invariant-loop-i

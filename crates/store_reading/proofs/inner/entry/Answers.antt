@@ -4,7 +4,6 @@ use Rattle.willow.specs.Numbers.{Bytes}
 use Rattle.willow.specs.Refusals.{value}
 use Rattle.willow.proofs.NumberLaws.{bytes_by_index}
 use Rattle.store_reading.proofs.EntryAtLaws.{path_long, path_counted}
-use borrow.Author.Rules.{rules}
 use Rattle.store_reading.proofs.inner.entry.Goals as goal
 use Rattle.store_reading.proofs.inner.entry.Goals.{After-shared_slice_known-1}
 

@@ -4,7 +4,6 @@ use Rattle.willow.specs.Numbers.{Bytes}
 use Rattle.willow.proofs.NumberLaws.{bytes_by_index}
 use Rattle.store_form.proofs.TestedLaws.{known}
 use Rattle.store_reading.proofs.EntryAtLaws.{rows_readable, head_whole}
-use borrow.Author.Rules.{rules}
 use Rattle.store_reading.proofs.inner.head.Goals as goal
 use Rattle.store_reading.proofs.inner.head.Goals.{After-shared_slice_known-1}
 

@@ -1,7 +1,6 @@
 -- The first three numbers of a store are its limits; it passed, so they are there.
 use native.Mathlib.Omega.{arith}
 use Rattle.store_form.proofs.TestedLaws.{known}
-use borrow.Author.Rules.{rules}
 use Rattle.store_reading.proofs.inner.limits.Goals as goal
 
 pub read_u64-requires : goal.read_u64-requires

@@ -4,7 +4,6 @@ use Rattle.willow.specs.Numbers.{Bytes}
 use Rattle.willow.proofs.NumberLaws.{bytes_by_index}
 use Rattle.store_form.proofs.TestedLaws.{known}
 use Rattle.store_reading.proofs.EntryAtLaws.{numbers_are}
-use borrow.Author.Rules.{rules}
 use Rattle.store_reading.proofs.inner.numbers.Goals as goal
 use Rattle.store_reading.proofs.inner.numbers.Goals.{After-shared_slice_known-1}
 

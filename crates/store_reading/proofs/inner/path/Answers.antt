@@ -4,7 +4,6 @@ use Rattle.willow.specs.Numbers.{Bytes}
 use Rattle.willow.proofs.NumberLaws.{bytes_by_index}
 use Rattle.store_form.proofs.TestedLaws.{known}
 use Rattle.store_reading.proofs.EntryAtLaws.{rows_readable, path_whole}
-use borrow.Author.Rules.{rules}
 use Rattle.store_reading.proofs.inner.path.Goals as goal
 use Rattle.store_reading.proofs.inner.path.Goals.{After-shared_slice_known-1}
 

@@ -1,5 +1,4 @@
 -- The record at place i among the heads is the head of row i, and its fields are those of the row's entry.
-use borrow.Author.Rules.{rules}
 use Rattle.store_rows.proofs.RowEntryLaws.{head_long, head_entry}
 use Rattle.store_rows.proofs.inner.head_at.Goals as goal
 

@@ -1,5 +1,4 @@
 -- The record at place i among the cells is the cell of row i, which passed its test; so its path may be cut out.
-use borrow.Author.Rules.{rules}
 use Rattle.store_rows.proofs.RowEntryLaws.{cell_inside, cell_ready, cell_part}
 use Rattle.store_rows.proofs.inner.path_at.Goals as goal
 

@@ -1,7 +1,6 @@
 -- Both heads, with the paths that their cells hold, are the entries of the two rows; so their places were compared.
 use Prim.Native.Nat.{ℕ}
 use mathlib.Core.Path.{◌≡◌, sym, ◌∙◌, ap}
-use borrow.Author.Rules.{rules}
 use Rattle.willow.specs.Entries.{Entry, compare_places}
 use Rattle.willow.specs.Orders.{is_less}
 use Rattle.store_rows.specs.EntryRows.{row_entry}

@@ -2,7 +2,6 @@
 use Prim.Native.Nat.{ℕ}
 use mathlib.Core.Path.{◌≡◌, ◌∙◌}
 use native.Mathlib.Omega.{arith}
-use borrow.Author.Rules.{rules}
 use Rattle.willow.specs.Entries.{Entry}
 use Rattle.store_rows.specs.EntryRows.{row_entry}
 use Rattle.store_rows.proofs.RowEntryLaws.{covers_not, covers_by, head_long, head_subspace, path_packed, path_readable, path_entry}

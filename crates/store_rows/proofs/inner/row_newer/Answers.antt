@@ -1,6 +1,5 @@
 -- Newer does not look at paths, so that of the two heads is that of the entries which they make with any.
 use mathlib.Core.Path.{◌∙◌}
-use borrow.Author.Rules.{rules}
 use Rattle.willow.specs.Entries.{is_newer}
 use Rattle.store_rows.proofs.inner.row_newer.Goals as goal
 

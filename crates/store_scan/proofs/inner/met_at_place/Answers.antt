@@ -1,6 +1,5 @@
 -- Each case is its own clause of what is met at a place.
 use mathlib.Core.Path.{sym, ap}
-use borrow.Author.Rules.{rules}
 use Rattle.store_scan.specs.Scans.{met_at_place}
 use Rattle.store_scan.proofs.inner.met_at_place.Goals as goal
 

@@ -1,7 +1,6 @@
 -- The head and the path that were read make the row's entry; so the two tests and the comparison are those of what is met in it.
 use mathlib.Core.Path.{◌≡◌, ap}
 use native.Mathlib.Omega.{arith}
-use borrow.Author.Rules.{rules}
 use Rattle.willow.specs.Answers.{path_in}
 use Rattle.willow.specs.Entries.{Entry}
 use Rattle.packed.specs.Readable.{Readable}

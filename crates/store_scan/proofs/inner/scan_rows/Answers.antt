@@ -1,8 +1,5 @@
 use Prim.Native.Nat.{◌-◌}
-use borrow.Author.Rules.{rules}
-use Rattle.willow.specs.Answers.{path_in}
-use Rattle.entry.specs.Heads.{entry_at}
-use Rattle.store_scan.proofs.PassingLaws.{entries, entries_end, entries_next, Passing, pass_starts, pass_ends, payload_room, pass_goes_on}
+use Rattle.store_scan.proofs.PassingLaws.{entries_end, entries_next, pass_starts, pass_ends, payload_room, pass_goes_on}
 use Rattle.store_scan.proofs.inner.scan_rows.Goals as goal
 
 pub loop-i-init : goal.loop-i-init

@@ -1,9 +1,8 @@
 -- Behind each row the pass stands one entry further; behind the last nothing is left, and what was met is what all rows give.
 use Prim.Native.Nat.{◌-◌}
-use borrow.Author.Rules.{rules}
 use Rattle.willow.specs.Answers.{path_in}
 use Rattle.entry.specs.Heads.{entry_at}
-use Rattle.store_scan.proofs.PassingLaws.{entries, entries_end, entries_next, Passing, pass_starts, pass_ends, payload_room, pass_goes_on}
+use Rattle.store_scan.proofs.PassingLaws.{entries, Passing}
 use Rattle.store_scan.proofs.inner.scan_rows.Given as goal
 
 abbrev pub invariant-loop-i : goal.invariant-loop-i

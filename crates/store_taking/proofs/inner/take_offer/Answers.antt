@@ -11,7 +11,6 @@ use Rattle.lent_path.proofs.TestLaws.{readable}
 use Rattle.entry.specs.Heads.{entry_at}
 use Rattle.store_form.proofs.TestedLaws.{known}
 use Rattle.store_taking.proofs.TakingLaws.{path_fits, Numbers, numbers_in, totals, payloads_word, rows_readable, Filing, full, pruned_few, refused_so, outdated_so, repeat_so, filing, taken_so}
-use borrow.Author.Rules.{rules}
 use Rattle.store_taking.proofs.inner.take_offer.Goals as goal
 
 pub read_u64-capacity-requires : goal.read_u64-capacity-requires
@@ -56,7 +55,7 @@ let_go_more-requires-in-Repeat c =
 pub file_rows-requires : goal.file_rows-requires
 file_rows-requires c =
     let f = (let files_here : Filing ((let numbers_here : Numbers = record { limits = c.args.limits; capacity = c.read_u64-capacity.result; count = c.read_u64-n.result; held = c.read_u64-held.result; let_go = c.read_u64-let_go.result } in numbers_here)) c.scan_rows-met.result (entry_at 0 c.args.head ((let path_here : Path = path_in c.args.path.now c.args.count in path_here))) ((let sheet_here : List ℕ = c.args.sheet.now in sheet_here)) = filing ((let sheet_here : List ℕ = c.args.sheet.now in sheet_here)) ((let bytes_here : Bytes ((let sheet_here : List ℕ = c.args.sheet.now in sheet_here)) = bytes_by_index ((let sheet_here : List ℕ = c.args.sheet.now in sheet_here)) (λ i. (c.slice_known-1.given i).fits) in bytes_here)) c.requires.0 c.args.head ((let path_here : Path = path_in c.args.path.now c.args.count in path_here)) ((let numbers_here : Numbers = record { limits = c.args.limits; capacity = c.read_u64-capacity.result; count = c.read_u64-n.result; held = c.read_u64-held.result; let_go = c.read_u64-let_go.result } in numbers_here)) ((let same_here : (let numbers_here : Numbers = record { limits = c.args.limits; capacity = c.read_u64-capacity.result; count = c.read_u64-n.result; held = c.read_u64-held.result; let_go = c.read_u64-let_go.result } in numbers_here) ≡ numbers_in ((let sheet_here : List ℕ = c.args.sheet.now in sheet_here)) = λ i. record { limits = c.requires.1 i; capacity = c.read_u64-capacity.ensures i; count = c.read_u64-n.ensures i; held = c.read_u64-held.ensures i; let_go = c.read_u64-let_go.ensures i } in same_here)) c.scan_rows-met.result c.scan_rows-met.ensures c.if-held-let_go.false c.decided.result c.decided.ensures _ c.in-Taken.is in files_here) in
-    let lent = bytes_by_index c.args.path.now (λ i. (c.shared_slice_known-1.given i).fits) in record { rows_readable = ( rows_readable ((let sheet_here : List ℕ = c.args.sheet.now in sheet_here)) c.requires.0 ((let numbers_here : Numbers = record { limits = c.args.limits; capacity = c.read_u64-capacity.result; count = c.read_u64-n.result; held = c.read_u64-held.result; let_go = c.read_u64-let_go.result } in numbers_here)) ((let same_here : (let numbers_here : Numbers = record { limits = c.args.limits; capacity = c.read_u64-capacity.result; count = c.read_u64-n.result; held = c.read_u64-held.result; let_go = c.read_u64-let_go.result } in numbers_here) ≡ numbers_in ((let sheet_here : List ℕ = c.args.sheet.now in sheet_here)) = λ i. record { limits = c.requires.1 i; capacity = c.read_u64-capacity.ensures i; count = c.read_u64-n.ensures i; held = c.read_u64-held.ensures i; let_go = c.read_u64-let_go.ensures i } in same_here)) ((let bytes_here : Bytes ((let sheet_here : List ℕ = c.args.sheet.now in sheet_here)) = bytes_by_index ((let sheet_here : List ℕ = c.args.sheet.now in sheet_here)) (λ i. (c.slice_known-1.given i).fits) in bytes_here)), readable _ _ _ c.requires.2, path_fits _ _ _ lent c.requires.2, ); sheet_len_bound = (f.free, f.there) }
+    let lent = bytes_by_index c.args.path.now (λ i. (c.shared_slice_known-1.given i).fits) in record { rows_readable = (rows_readable ((let sheet_here : List ℕ = c.args.sheet.now in sheet_here)) c.requires.0 ((let numbers_here : Numbers = record { limits = c.args.limits; capacity = c.read_u64-capacity.result; count = c.read_u64-n.result; held = c.read_u64-held.result; let_go = c.read_u64-let_go.result } in numbers_here)) ((let same_here : (let numbers_here : Numbers = record { limits = c.args.limits; capacity = c.read_u64-capacity.result; count = c.read_u64-n.result; held = c.read_u64-held.result; let_go = c.read_u64-let_go.result } in numbers_here) ≡ numbers_in ((let sheet_here : List ℕ = c.args.sheet.now in sheet_here)) = λ i. record { limits = c.requires.1 i; capacity = c.read_u64-capacity.ensures i; count = c.read_u64-n.ensures i; held = c.read_u64-held.ensures i; let_go = c.read_u64-let_go.ensures i } in same_here)) ((let bytes_here : Bytes ((let sheet_here : List ℕ = c.args.sheet.now in sheet_here)) = bytes_by_index ((let sheet_here : List ℕ = c.args.sheet.now in sheet_here)) (λ i. (c.slice_known-1.given i).fits) in bytes_here)), readable _ _ _ c.requires.2, path_fits _ _ _ lent c.requires.2); sheet_len_bound = (f.free, f.there) }
 
 pub overflow_add-left : goal.overflow_add-left
 overflow_add-left c = omega (arith, ((let files_here : Filing ((let numbers_here : Numbers = record { limits = c.args.limits; capacity = c.read_u64-capacity.result; count = c.read_u64-n.result; held = c.read_u64-held.result; let_go = c.read_u64-let_go.result } in numbers_here)) c.scan_rows-met.result (entry_at 0 c.args.head ((let path_here : Path = path_in c.args.path.now c.args.count in path_here))) ((let sheet_here : List ℕ = c.args.sheet.now in sheet_here)) = filing ((let sheet_here : List ℕ = c.args.sheet.now in sheet_here)) ((let bytes_here : Bytes ((let sheet_here : List ℕ = c.args.sheet.now in sheet_here)) = bytes_by_index ((let sheet_here : List ℕ = c.args.sheet.now in sheet_here)) (λ i. (c.slice_known-1.given i).fits) in bytes_here)) c.requires.0 c.args.head ((let path_here : Path = path_in c.args.path.now c.args.count in path_here)) ((let numbers_here : Numbers = record { limits = c.args.limits; capacity = c.read_u64-capacity.result; count = c.read_u64-n.result; held = c.read_u64-held.result; let_go = c.read_u64-let_go.result } in numbers_here)) ((let same_here : (let numbers_here : Numbers = record { limits = c.args.limits; capacity = c.read_u64-capacity.result; count = c.read_u64-n.result; held = c.read_u64-held.result; let_go = c.read_u64-let_go.result } in numbers_here) ≡ numbers_in ((let sheet_here : List ℕ = c.args.sheet.now in sheet_here)) = λ i. record { limits = c.requires.1 i; capacity = c.read_u64-capacity.ensures i; count = c.read_u64-n.ensures i; held = c.read_u64-held.ensures i; let_go = c.read_u64-let_go.ensures i } in same_here)) c.scan_rows-met.result c.scan_rows-met.ensures c.if-held-let_go.false c.decided.result c.decided.ensures _ c.in-Taken.is in files_here)).word)

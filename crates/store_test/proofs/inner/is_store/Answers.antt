@@ -2,7 +2,6 @@
 use Prim.Native.Nat.{ℕ, ◌+◌, ◌*◌, ◌≤◌}
 use mathlib.Core.Path.{◌≡◌, sym, ◌∙◌}
 use native.Mathlib.Omega.{arith}
-use borrow.Author.Rules.{rules}
 use Rattle.willow.specs.declared.Limits.{Limits}
 use Rattle.sheet.specs.Cells.{cell_size_of}
 use Rattle.store_form.specs.StoreTest.{is_store}

@@ -5,7 +5,6 @@ use mathlib.Core.Bool.{true}
 use mathlib.Core.List.{List, []}
 use native.Mathlib.Omega.{arith}
 use lib.Dec.{eqb}
-use borrow.Author.Rules.{rules}
 use Rattle.willow.specs.Entries.{Entry}
 use Rattle.willow.specs.Store.{payloads}
 use Rattle.willow.proofs.NumberLaws.{bytes_by_index}

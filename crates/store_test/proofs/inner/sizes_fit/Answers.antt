@@ -2,7 +2,6 @@
 use mathlib.Core.Path.{sym, ◌∙◌, ◌≡◌}
 use mathlib.Core.Bool.{true}
 use native.Mathlib.Omega.{arith}
-use borrow.Author.Rules.{rules}
 use Rattle.willow.specs.Limits.{accepted_limits, accepted_capacity}
 use Rattle.store_rows.specs.EntryRows.{sizes_of}
 use Rattle.store_test.proofs.PassLaws.{sizes_limits, sizes_capacity, sizes_count, sizes_totals}

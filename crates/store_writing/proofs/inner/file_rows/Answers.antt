@@ -3,7 +3,6 @@ use Rattle.willow.specs.Answers.{path_in}
 use Rattle.entry.specs.Heads.{entry_at}
 use Rattle.store_form.specs.Stores.{entry_head, entry_row}
 use Rattle.store_writing.proofs.FiledLaws.{rows_filed}
-use borrow.Author.Rules.{rules}
 use Rattle.store_writing.proofs.inner.file_rows.Goals as goal
 
 pub returns : goal.returns

@@ -3,7 +3,6 @@ use mathlib.Core.Path.{◌∙◌, ap}
 use Rattle.willow.specs.Numbers.{le}
 use Rattle.number.specs.Overwriting.{overwrite}
 use Rattle.store_writing.specs.Filed.{with_counts}
-use borrow.Author.Rules.{rules}
 use Rattle.store_writing.proofs.inner.set_counts.Goals as goal
 
 pub returns : goal.returns

@@ -1,5 +1,4 @@
 -- All of them include every id; an id is compared as its number.
-use borrow.Author.Rules.{rules}
 use Rattle.subspace.proofs.inner.includes.Goals as goal
 
 pub returns-in-Id : goal.returns-in-Id

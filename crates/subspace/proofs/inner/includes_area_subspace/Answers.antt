@@ -1,5 +1,4 @@
 -- Two ids compare as their numbers; the other cases are computed.
-use borrow.Author.Rules.{rules}
 use Rattle.subspace.proofs.inner.includes_area_subspace.Goals as goal
 
 pub returns-in-Id-other : goal.returns-in-Id-other

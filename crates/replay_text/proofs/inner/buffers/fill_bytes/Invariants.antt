@@ -1,6 +1,5 @@
 -- The two digits at 2i and 2i + 1 lie inside while i is below half the text.
 use Prim.Native.Nat.{◌≤◌, ◌-◌}
-use borrow.Author.Rules.{rules}
 use Rattle.replay_text.proofs.inner.buffers.fill_bytes.Given as goal
 
 abbrev pub invariant-loop-i : goal.invariant-loop-i

@@ -1,6 +1,5 @@
 -- Each of the k pieces is read once.
 use Prim.Native.Nat.{◌≤◌, ◌-◌}
-use borrow.Author.Rules.{rules}
 use Rattle.replay_text.proofs.inner.buffers.fill_pieces.Given as goal
 
 abbrev pub invariant-loop-i : goal.invariant-loop-i

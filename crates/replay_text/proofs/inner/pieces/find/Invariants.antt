@@ -1,6 +1,5 @@
 -- Each name of the table is looked at once.
 use Prim.Native.Nat.{◌≤◌, ◌-◌}
-use borrow.Author.Rules.{rules}
 use Rattle.replay_text.proofs.inner.pieces.find.Given as goal
 
 abbrev pub invariant-loop-i : goal.invariant-loop-i

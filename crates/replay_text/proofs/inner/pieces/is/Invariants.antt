@@ -1,6 +1,5 @@
 -- Both texts are as long.
 use Prim.Native.Nat.{◌≤◌, ◌-◌}
-use borrow.Author.Rules.{rules}
 use lib.ListN.{length}
 use Rattle.replay_text.proofs.inner.pieces.is.Given as goal
 

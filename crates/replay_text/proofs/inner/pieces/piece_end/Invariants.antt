@@ -1,6 +1,5 @@
 -- The place goes up while it lies inside.
 use Prim.Native.Nat.{◌≤◌, ◌-◌}
-use borrow.Author.Rules.{rules}
 use lib.ListN.{length}
 use Rattle.replay_text.proofs.inner.pieces.piece_end.Given as goal
 

@@ -1,6 +1,5 @@
 -- The place goes up, and not past the end.
 use Prim.Native.Nat.{◌≤◌, ◌-◌}
-use borrow.Author.Rules.{rules}
 use lib.ListN.{length}
 use Rattle.replay_text.proofs.inner.pieces.piece_start.Given as goal
 

@@ -1,6 +1,5 @@
 -- Every index passed lies inside.
 use Prim.Native.Nat.{◌≤◌, ◌-◌}
-use borrow.Author.Rules.{rules}
 use lib.ListN.{length}
 use Rattle.replay_text.proofs.inner.pieces.read_number.Given as goal
 
