@@ -1,0 +1,3 @@
+pub mod HostNumberLaws
+pub mod AnsweredKindLaws
+pub mod HostAnswerLaws

@@ -1,0 +1,3 @@
+pub mod HostNumbers
+pub mod AnsweredKinds
+pub mod HostAnswers

@@ -1,0 +1,3 @@
+pub mod EndValueLaws
+pub mod RangePartLaws
+pub mod PathRangePartLaws

@@ -1,0 +1,16 @@
+pub mod FitLaws
+pub mod LentPathRows
+pub mod PathTableLaws
+pub mod MakingTableLaws
+pub mod MakingAnswerLaws
+pub mod GroupingTableLaws
+pub mod KindTableLaws
+pub mod ExportTableLaws
+pub mod SheetTableLaws
+pub mod MapTableLaws
+pub mod OfferTableLaws
+pub mod FreshStoreLaws
+pub mod ListingTableLaws
+pub mod FormLaws
+pub mod LineTableLaws
+pub mod BuilderTableLaws

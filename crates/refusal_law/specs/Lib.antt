@@ -1,0 +1,12 @@
+pub mod Paths
+pub mod LentPathTables
+pub mod MakingTables
+pub mod Grouping
+pub mod Kinds
+pub mod Exports
+pub mod Sheets
+pub mod Maps
+pub mod Stores
+pub mod Listing
+pub mod LineTable
+pub mod Builders
