@@ -7,7 +7,7 @@ Words are in snake case, types and modules in camel case. A row of respell.tsv i
 already and now would meet another, a third column `bare`: it turns only in .antt files and only where it stands behind no dot.
 It turns whole words: in specs/ and proofs/ the code, in src/ the clauses (names with a dash are lemmas, which no clause cites), in
 must-fail/ and tried/ the texts of edits, and in comments and pages what stands in backticks. It goes by spelling; run the check afterwards.
-A second run writes nothing more.
+It is run once, right after the kit's scripts: a second run would turn the rows marked `bare` again.
 """
 import os
 import re
