@@ -4,3 +4,4 @@ pub mod answers;
 pub mod forms;
 pub mod input;
 pub mod kept;
+pub mod parts;

@@ -13,114 +13,124 @@
 // For a call it prints the status, the length where the call gives one, the six numbers of the state where it gives one, and the
 // whole buffer; for the first three lines it prints nothing.
 
+use arrayvec::ArrayVec;
 use builder::Builder;
 use host_builder::{
     BuilderAnswer, wotskrale_builder_append_component, wotskrale_builder_build,
     wotskrale_builder_new, wotskrale_builder_new_from_prefix,
 };
 use host_greatest::wotskrale_path_new_max;
-use replay_cases::inner::forms::Case;
-use replay_cases::inner::kept::Kept;
-use replay_cases::inner::{answers, forms, kept};
+use replay_cases::inner::answers::Row;
+use replay_cases::inner::forms::{Case, Line};
+use replay_cases::inner::{answers, kept};
 use std::io::Stdout;
 
-// The calls of this part, as NUMBER:NAME:FORM.
-pub(crate) fn read(line: &[u8], array: &mut [u8; 4096]) -> Case {
-    let table =
-        b"1:room:cn 2:buffer:cb 3:state:cnnnnnn 10:new:cnnnnn 11:new_from_prefix:cnnnnnbnn 12:append_component:cb \
-        13:build:c 14:new_max:cnnn";
-    forms::read(line, table, array)
+// The buffer and the state.
+#[derive(Drop)]
+pub(crate) struct Building {
+    buffer: ArrayVec<u8, 16384>,
+    state: Builder,
 }
 
-fn kept_state(k: Kept) -> Builder {
+// A state of the first numbers of a case.
+fn state_of(c: &Case) -> Builder {
     Builder {
-        mcl: k.mcl,
-        mcc: k.mcc,
-        mpl: k.mpl,
-        length: k.length,
-        count: k.count,
-        appended: k.appended,
+        mcl: c.n[0],
+        mcc: c.n[1],
+        mpl: c.n[2],
+        length: c.n[3],
+        count: c.n[4],
+        appended: c.n[5],
     }
 }
 
-fn with_state(k: Kept, s: Builder) -> Kept {
-    let mut m = k;
-    m.mcl = s.mcl;
-    m.mcc = s.mcc;
-    m.mpl = s.mpl;
-    m.length = s.length;
-    m.count = s.count;
-    m.appended = s.appended;
-    m
-}
-
-fn given_state(n: Case) -> Builder {
-    Builder {
-        mcl: n.p1,
-        mcc: n.p2,
-        mpl: n.p3,
-        length: n.p4,
-        count: n.p5,
-        appended: n.p6,
-    }
-}
-
-// The three calls that hand back a state.
-fn step(n: Case, b1: &[u8], out: &mut [u8], s: Builder) -> BuilderAnswer {
-    let call = n.call;
-    match call {
-        10 => wotskrale_builder_new(n.p1, n.p2, n.p3, n.p4, n.p5, out),
-        11 => wotskrale_builder_new_from_prefix(n.p1, n.p2, n.p3, n.p4, n.p5, b1, n.p7, n.p8, out),
-        _ => wotskrale_builder_append_component(s, out, b1),
-    }
-}
-
-fn print_step(to: &Stdout, n: Case, b1: &[u8], out: &mut [u8], s: Builder) -> Builder {
-    let a = step(n, b1, out, s);
-    let t = a.state;
-    let x = [a.status, t.mcl, t.mcc, t.mpl, t.length, t.count, t.appended];
-    answers::print_with(to, &x, out);
-    t
-}
-
-fn print_build(to: &Stdout, out: &[u8], s: Builder) -> Builder {
-    let a = wotskrale_builder_build(s, out);
-    let t = a.state;
-    let x = [
-        a.status, a.value, t.mcl, t.mcc, t.mpl, t.length, t.count, t.appended,
-    ];
-    answers::print_with(to, &x, out);
-    t
-}
-
-fn print_max(to: &Stdout, n: Case, out: &mut [u8]) {
-    let a = wotskrale_path_new_max(n.p1, n.p2, n.p3, out);
-    answers::print_written(to, a, out);
-}
-
-// Makes the call with the buffer that is kept, and prints its answer.
-fn call_with(to: &Stdout, n: Case, b1: &[u8], out: &mut [u8], k: Kept) -> Kept {
-    let call = n.call;
-    match call {
-        13 => with_state(k, print_build(to, out, kept_state(k))),
-        14 => {
-            print_max(to, n, out);
-            k
+impl Building {
+    // An empty buffer, and a state of zeros.
+    pub(crate) fn new() -> Self {
+        Building {
+            buffer: ArrayVec::new(),
+            state: Builder {
+                mcl: 0,
+                mcc: 0,
+                mpl: 0,
+                length: 0,
+                count: 0,
+                appended: 0,
+            },
         }
-        _ => with_state(k, print_step(to, n, b1, out, kept_state(k))),
     }
-}
 
-// Carries a line out: what is kept then.
-pub(crate) fn replay(to: &Stdout, n: Case, b1: &[u8], space: &mut [u8], k: Kept) -> Kept {
-    let call = n.call;
-    match call {
-        1 => kept::keep_room(to, n.p1, space, 16384, k),
-        2 => kept::keep_bytes(to, b1, space, 0, 16384, k),
-        3 => with_state(k, given_state(n)),
-        _ => {
-            let m = kept::kept_length(k, space);
-            call_with(to, n, b1, &mut space[0..m], k)
+    // The state is kept, and printed with the buffer.
+    fn step(&mut self, to: &Stdout, a: BuilderAnswer) {
+        self.state = a.state;
+        let t = a.state;
+        let x = Row([a.status, t.mcl, t.mcc, t.mpl, t.length, t.count, t.appended]);
+        answers::print_with(to, x, &self.buffer);
+    }
+
+    fn start(&mut self, to: &Stdout, line: Line<'_>) -> Option<()> {
+        let c = line.read(b"nnnnn")?;
+        let a = wotskrale_builder_new(c.n[0], c.n[1], c.n[2], c.n[3], c.n[4], &mut self.buffer);
+        self.step(to, a);
+        Some(())
+    }
+
+    fn start_from_prefix(&mut self, to: &Stdout, line: Line<'_>) -> Option<()> {
+        let c = line.read(b"nnnnnbnn")?;
+        let a = wotskrale_builder_new_from_prefix(
+            c.n[0],
+            c.n[1],
+            c.n[2],
+            c.n[3],
+            c.n[4],
+            &c.b[0],
+            c.n[5],
+            c.n[6],
+            &mut self.buffer,
+        );
+        self.step(to, a);
+        Some(())
+    }
+
+    fn append_component(&mut self, to: &Stdout, line: Line<'_>) -> Option<()> {
+        let c = line.read(b"b")?;
+        let a = wotskrale_builder_append_component(self.state, &mut self.buffer, &c.b[0]);
+        self.step(to, a);
+        Some(())
+    }
+
+    fn build(&mut self, to: &Stdout, line: Line<'_>) -> Option<()> {
+        line.read(b"")?;
+        let a = wotskrale_builder_build(self.state, &self.buffer);
+        self.state = a.state;
+        let t = a.state;
+        let x = Row([
+            a.status, a.value, t.mcl, t.mcc, t.mpl, t.length, t.count, t.appended,
+        ]);
+        answers::print_with(to, x, &self.buffer);
+        Some(())
+    }
+
+    fn new_max(&mut self, to: &Stdout, line: Line<'_>) -> Option<()> {
+        let c = line.read(b"nnn")?;
+        let a = wotskrale_path_new_max(c.n[0], c.n[1], c.n[2], &mut self.buffer);
+        answers::print_with(to, a, &self.buffer);
+        Some(())
+    }
+
+    // Carries a line out.
+    pub(crate) fn replay(&mut self, to: &Stdout, line: Line<'_>) -> Option<()> {
+        match line.name {
+            "room" => self.buffer = kept::filled(line.read(b"n")?.n[0])?,
+            "buffer" => self.buffer = kept::of_bytes(&line.read(b"b")?.b[0])?,
+            "state" => self.state = state_of(&line.read(b"nnnnnn")?),
+            "new" => self.start(to, line)?,
+            "new_from_prefix" => self.start_from_prefix(to, line)?,
+            "append_component" => self.append_component(to, line)?,
+            "build" => self.build(to, line)?,
+            "new_max" => self.new_max(to, line)?,
+            _ => return None,
         }
+        Some(())
     }
 }

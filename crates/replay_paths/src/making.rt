@@ -9,42 +9,50 @@ use host_least::{
     wotskrale_path_greater_but_not_prefixed, wotskrale_path_singleton_range,
     wotskrale_path_successor,
 };
-use replay_cases::inner::forms::Case;
-use replay_cases::inner::{answers, forms};
+use replay_cases::inner::forms::Line;
 use std::io::Stdout;
 
-// The calls of this part, as NUMBER:NAME:FORM.
-pub(crate) fn read(line: &[u8], array: &mut [u8; 4096]) -> Case {
-    let table =
-        b"1:new_empty:cnnno 2:new_singleton:cnnnbo 3:from_slices:cnnnbbo 4:new_from_iter:cnnnnbbo 5:append:cnnnbnbo \
-        6:append_slice:cnnnbnbbo 7:successor:cnnnbno 8:greater_but_not_prefixed:cnnnbno 9:singleton_range:cnnnbno";
-    forms::read(line, table, array)
-}
-
-fn make(n: Case, b1: &[u8], b2: &[u8], b3: &[u8], out: &mut [u8]) -> Answer {
-    let call = n.call;
-    match call {
-        1 => wotskrale_path_new_empty(n.p1, n.p2, n.p3, out),
-        2 => wotskrale_path_new_singleton(n.p1, n.p2, n.p3, b1, out),
-        3 => wotskrale_path_from_slices(n.p1, n.p2, n.p3, b1, b2, out),
-        4 => wotskrale_path_new_from_iter(n.p1, n.p2, n.p3, n.p4, b1, b2, out),
-        5 => wotskrale_path_append(n.p1, n.p2, n.p3, b1, n.p5, b2, out),
-        6 => wotskrale_path_append_slice(n.p1, n.p2, n.p3, b1, n.p5, b2, b3, out),
-        7 => wotskrale_path_successor(n.p1, n.p2, n.p3, b1, n.p5, out),
-        8 => wotskrale_path_greater_but_not_prefixed(n.p1, n.p2, n.p3, b1, n.p5, out),
-        9 => wotskrale_path_singleton_range(n.p1, n.p2, n.p3, b1, n.p5, out),
-        _ => forms::no_call(),
-    }
-}
-
-fn print_made(to: &Stdout, n: Case, b1: &[u8], b2: &[u8], b3: &[u8], out: &mut [u8]) {
-    let a = make(n, b1, b2, b3, out);
-    answers::print_written(to, a, out);
+// A path made from another.
+fn from_path<F: FnOnce(u64, u64, u64, &[u8], u64, &mut [u8]) -> Answer>(
+    to: &Stdout,
+    line: Line<'_>,
+    call: F,
+) -> Option<()>
+    requires { F.IsAlwaysCallable call }
+{
+    line.write(to, b"nnnbno", |c, out| {
+        call(c.n[0], c.n[1], c.n[2], &c.b[0], c.n[3], out)
+    })
 }
 
 // Makes the call, and prints its answer.
-pub(crate) fn replay(to: &Stdout, n: Case, b1: &[u8], b2: &[u8], b3: &[u8]) {
-    let mut out = [238u8; 256];
-    let m = forms::room(n, &out);
-    print_made(to, n, b1, b2, b3, &mut out[0..m]);
+pub(crate) fn replay(to: &Stdout, line: Line<'_>) -> Option<()> {
+    match line.name {
+        "new_empty" => line.write(to, b"nnno", |c, out| {
+            wotskrale_path_new_empty(c.n[0], c.n[1], c.n[2], out)
+        }),
+        "new_singleton" => line.write(to, b"nnnbo", |c, out| {
+            wotskrale_path_new_singleton(c.n[0], c.n[1], c.n[2], &c.b[0], out)
+        }),
+        "from_slices" => line.write(to, b"nnnbbo", |c, out| {
+            wotskrale_path_from_slices(c.n[0], c.n[1], c.n[2], &c.b[0], &c.b[1], out)
+        }),
+        "new_from_iter" => line.write(to, b"nnnnbbo", |c, out| {
+            wotskrale_path_new_from_iter(c.n[0], c.n[1], c.n[2], c.n[3], &c.b[0], &c.b[1], out)
+        }),
+        "append" => line.write(to, b"nnnbnbo", |c, out| {
+            wotskrale_path_append(c.n[0], c.n[1], c.n[2], &c.b[0], c.n[3], &c.b[1], out)
+        }),
+        "append_slice" => line.write(to, b"nnnbnbbo", |c, out| {
+            wotskrale_path_append_slice(
+                c.n[0], c.n[1], c.n[2], &c.b[0], c.n[3], &c.b[1], &c.b[2], out,
+            )
+        }),
+        "successor" => from_path(to, line, wotskrale_path_successor),
+        "greater_but_not_prefixed" => {
+            from_path(to, line, wotskrale_path_greater_but_not_prefixed)
+        }
+        "singleton_range" => from_path(to, line, wotskrale_path_singleton_range),
+        _ => None,
+    }
 }

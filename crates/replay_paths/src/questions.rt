@@ -1,4 +1,4 @@
-// The calls that read, relate and write paths. Below 10 stand the tests, from 30 on the calls that write.
+// The calls that read, relate and write paths.
 
 use convention::Answer;
 use host_reading::{
@@ -14,79 +14,93 @@ use host_writing::{
     wotskrale_path_write_component, wotskrale_path_write_longest_common_prefix,
     wotskrale_path_write_prefix,
 };
-use replay_cases::inner::forms::Case;
-use replay_cases::inner::{answers, forms};
+use replay_cases::inner::forms::Line;
 use std::io::Stdout;
 
-// The calls of this part, as NUMBER:NAME:FORM.
-pub(crate) fn read(line: &[u8], array: &mut [u8; 4096]) -> Case {
-    let table =
-        b"1:component_test:cnnnb 2:test:cnnnbn 10:component_count:cnnnbn 11:is_empty:cnnnbn 12:length:cnnnbn \
-        13:length_of_prefix:cnnnbnn 14:create_prefix:cnnnbnn 15:component_length:cnnnbnn 16:compare:cnnnbnbn \
-        17:equal:cnnnbnbn 18:is_prefix_of:cnnnbnbn 19:is_prefixed_by:cnnnbnbn 20:is_related:cnnnbnbn \
-        21:longest_common_prefix:cnnnbnbn 30:write_component:cnnnbnno 31:write_prefix:cnnnbnno \
-        32:write_longest_common_prefix:cnnnbnbno";
-    forms::read(line, table, array)
+// A question on one path.
+fn on_one<F: FnOnce(u64, u64, u64, &[u8], u64) -> Answer>(
+    to: &Stdout,
+    line: Line<'_>,
+    call: F,
+) -> Option<()>
+    requires { F.IsAlwaysCallable call }
+{
+    line.ask(
+        to,
+        b"nnnbn",
+        |c| call(c.n[0], c.n[1], c.n[2], &c.b[0], c.n[3]),
+    )
 }
 
-fn test(n: Case, b1: &[u8]) -> u64 {
-    let call = n.call;
-    match call {
-        1 => wotskrale_component_test(n.p1, n.p2, n.p3, b1),
-        2 => wotskrale_path_test(n.p1, n.p2, n.p3, b1, n.p5),
-        _ => 254,
-    }
+// A question on one path and a place in it.
+fn at_place<F: FnOnce(u64, u64, u64, &[u8], u64, u64) -> Answer>(
+    to: &Stdout,
+    line: Line<'_>,
+    call: F,
+) -> Option<()>
+    requires { F.IsAlwaysCallable call }
+{
+    line.ask(
+        to,
+        b"nnnbnn",
+        |c| call(c.n[0], c.n[1], c.n[2], &c.b[0], c.n[3], c.n[4]),
+    )
 }
 
-fn ask(n: Case, b1: &[u8], b2: &[u8]) -> Answer {
-    let call = n.call;
-    match call {
-        10 => wotskrale_path_component_count(n.p1, n.p2, n.p3, b1, n.p5),
-        11 => wotskrale_path_is_empty(n.p1, n.p2, n.p3, b1, n.p5),
-        12 => wotskrale_path_length(n.p1, n.p2, n.p3, b1, n.p5),
-        13 => wotskrale_path_length_of_prefix(n.p1, n.p2, n.p3, b1, n.p5, n.p6),
-        14 => wotskrale_path_create_prefix(n.p1, n.p2, n.p3, b1, n.p5, n.p6),
-        15 => wotskrale_path_component_length(n.p1, n.p2, n.p3, b1, n.p5, n.p6),
-        16 => wotskrale_path_compare(n.p1, n.p2, n.p3, b1, n.p5, b2, n.p7),
-        17 => wotskrale_path_equal(n.p1, n.p2, n.p3, b1, n.p5, b2, n.p7),
-        18 => wotskrale_path_is_prefix_of(n.p1, n.p2, n.p3, b1, n.p5, b2, n.p7),
-        19 => wotskrale_path_is_prefixed_by(n.p1, n.p2, n.p3, b1, n.p5, b2, n.p7),
-        20 => wotskrale_path_is_related(n.p1, n.p2, n.p3, b1, n.p5, b2, n.p7),
-        21 => wotskrale_path_longest_common_prefix(n.p1, n.p2, n.p3, b1, n.p5, b2, n.p7),
-        _ => forms::no_call(),
-    }
+// A question on two paths.
+fn on_two<F: FnOnce(u64, u64, u64, &[u8], u64, &[u8], u64) -> Answer>(
+    to: &Stdout,
+    line: Line<'_>,
+    call: F,
+) -> Option<()>
+    requires { F.IsAlwaysCallable call }
+{
+    line.ask(to, b"nnnbnbn", |c| {
+        call(c.n[0], c.n[1], c.n[2], &c.b[0], c.n[3], &c.b[1], c.n[4])
+    })
 }
 
-fn write(n: Case, b1: &[u8], b2: &[u8], out: &mut [u8]) -> Answer {
-    let call = n.call;
-    match call {
-        30 => wotskrale_path_write_component(n.p1, n.p2, n.p3, b1, n.p5, n.p6, out),
-        31 => wotskrale_path_write_prefix(n.p1, n.p2, n.p3, b1, n.p5, n.p6, out),
-        32 => wotskrale_path_write_longest_common_prefix(n.p1, n.p2, n.p3, b1, n.p5, b2, n.p7, out),
-        _ => forms::no_call(),
-    }
-}
-
-fn print_written(to: &Stdout, n: Case, b1: &[u8], b2: &[u8], out: &mut [u8]) {
-    let a = write(n, b1, b2, out);
-    answers::print_written(to, a, out);
-}
-
-fn replay_writing(to: &Stdout, n: Case, b1: &[u8], b2: &[u8]) {
-    let mut out = [238u8; 256];
-    let m = forms::room(n, &out);
-    print_written(to, n, b1, b2, &mut out[0..m]);
+// A call that writes a part of a path, up to a place in it.
+fn write<F: FnOnce(u64, u64, u64, &[u8], u64, u64, &mut [u8]) -> Answer>(
+    to: &Stdout,
+    line: Line<'_>,
+    call: F,
+) -> Option<()>
+    requires { F.IsAlwaysCallable call }
+{
+    line.write(to, b"nnnbnno", |c, out| {
+        call(c.n[0], c.n[1], c.n[2], &c.b[0], c.n[3], c.n[4], out)
+    })
 }
 
 // Makes the call, and prints its answer.
-pub(crate) fn replay(to: &Stdout, n: Case, b1: &[u8], b2: &[u8]) {
-    if n.call < 10 {
-        answers::print_status(to, test(n, b1));
-        return;
+pub(crate) fn replay(to: &Stdout, line: Line<'_>) -> Option<()> {
+    match line.name {
+        "component_test" => line.ask(to, b"nnnb", |c| {
+            wotskrale_component_test(c.n[0], c.n[1], c.n[2], &c.b[0])
+        }),
+        "test" => line.ask(to, b"nnnbn", |c| {
+            wotskrale_path_test(c.n[0], c.n[1], c.n[2], &c.b[0], c.n[3])
+        }),
+        "component_count" => on_one(to, line, wotskrale_path_component_count),
+        "is_empty" => on_one(to, line, wotskrale_path_is_empty),
+        "length" => on_one(to, line, wotskrale_path_length),
+        "length_of_prefix" => at_place(to, line, wotskrale_path_length_of_prefix),
+        "create_prefix" => at_place(to, line, wotskrale_path_create_prefix),
+        "component_length" => at_place(to, line, wotskrale_path_component_length),
+        "compare" => on_two(to, line, wotskrale_path_compare),
+        "equal" => on_two(to, line, wotskrale_path_equal),
+        "is_prefix_of" => on_two(to, line, wotskrale_path_is_prefix_of),
+        "is_prefixed_by" => on_two(to, line, wotskrale_path_is_prefixed_by),
+        "is_related" => on_two(to, line, wotskrale_path_is_related),
+        "longest_common_prefix" => on_two(to, line, wotskrale_path_longest_common_prefix),
+        "write_component" => write(to, line, wotskrale_path_write_component),
+        "write_prefix" => write(to, line, wotskrale_path_write_prefix),
+        "write_longest_common_prefix" => line.write(to, b"nnnbnbno", |c, out| {
+            wotskrale_path_write_longest_common_prefix(
+                c.n[0], c.n[1], c.n[2], &c.b[0], c.n[3], &c.b[1], c.n[4], out,
+            )
+        }),
+        _ => None,
     }
-    if n.call < 30 {
-        answers::print_answer(to, ask(n, b1, b2));
-        return;
-    }
-    replay_writing(to, n, b1, b2);
 }

@@ -1,46 +1,40 @@
-// The calls on stores, with the buffer that is kept. Below 10 stand the lines that change what is kept, below 20 the calls that may
-// write the store, from 30 on those that write elsewhere.
+// The calls on stores, with the store that is kept.
 
 use crate::each;
 use host_store::{OfferAnswer, wotskrale_store_fresh, wotskrale_store_offer, wotskrale_store_test};
 use host_store_reading::{
-    EntryAnswer, StoreAnswer, wotskrale_store_entry, wotskrale_store_entry_path,
-    wotskrale_store_numbers,
+    StoreAnswer, wotskrale_store_entry, wotskrale_store_entry_path, wotskrale_store_numbers,
 };
-use replay_cases::inner::forms::Case;
-use replay_cases::inner::{answers, forms};
+use replay_cases::inner::answers::Row;
+use replay_cases::inner::forms::Line;
+use replay_cases::inner::kept::Sheet;
+use replay_cases::inner::{answers, kept};
 use std::io::Stdout;
 
-// The calls of this part, as NUMBER:NAME:FORM.
-pub(crate) fn read(line: &[u8], array: &mut [u8; 4096]) -> Case {
-    let table =
-        b"1:room:cn 2:sheet:cb 3:more:cb 4:cut:cn 5:poke:cnn 10:store_fresh:cnnnnn 11:store_offer:cnnbnnnd \
-        12:store_test_each:cn 20:store_test:c 21:store_numbers:c 22:store_entry:cn 30:store_entry_path:cno";
-    forms::read(line, table, array)
+fn fresh(to: &Stdout, line: Line<'_>, store: &mut Sheet) -> Option<()> {
+    let c = line.read(b"nnnnn")?;
+    let a = wotskrale_store_fresh(c.n[0], c.n[1], c.n[2], c.n[3], c.n[4], store);
+    answers::print_with(to, a, store);
+    Some(())
 }
 
-fn fresh(to: &Stdout, n: Case, sheet: &mut [u8]) {
-    let a = wotskrale_store_fresh(n.p1, n.p2, n.p3, n.p4, n.p5, sheet);
-    answers::print_written(to, a, sheet);
+// Answers as rows. They are no `From`, since an impl names a type of its own crate, and both of these are others'.
+fn offer_row(a: OfferAnswer) -> Row<3> {
+    Row([a.status, a.answer, a.pruned])
 }
 
-fn print_offered(to: &Stdout, a: OfferAnswer, sheet: &[u8]) {
-    let x = [a.status, a.answer, a.pruned];
-    answers::print_with(to, &x, sheet);
+fn offer(to: &Stdout, line: Line<'_>, store: &mut Sheet) -> Option<()> {
+    let c = line.read(b"nnbnnnd")?;
+    let digest = c.d[0];
+    let a = wotskrale_store_offer(
+        store, c.n[0], c.n[1], &c.b[0], c.n[2], c.n[3], c.n[4], &digest,
+    );
+    answers::print_with(to, offer_row(a), store);
+    Some(())
 }
 
-fn offer_with(to: &Stdout, n: Case, b1: &[u8], d2: &[u8; 32], sheet: &mut [u8]) {
-    let a = wotskrale_store_offer(sheet, n.p1, n.p2, b1, n.p4, n.p5, n.p6, d2);
-    print_offered(to, a, sheet);
-}
-
-fn offer(to: &Stdout, n: Case, b1: &[u8], b2: &[u8], sheet: &mut [u8]) {
-    let d2 = forms::digest(b2);
-    offer_with(to, n, b1, &d2, sheet);
-}
-
-fn print_store(to: &Stdout, a: StoreAnswer) {
-    let x = [
+fn store_row(a: StoreAnswer) -> Row<9> {
+    Row([
         a.status,
         a.mcl,
         a.mcc,
@@ -50,44 +44,28 @@ fn print_store(to: &Stdout, a: StoreAnswer) {
         a.namespace,
         a.held,
         a.let_go,
-    ];
-    answers::print_numbers(to, &x);
+    ])
 }
 
-fn print_entry(to: &Stdout, a: EntryAnswer) {
-    let x = [a.status, a.subspace, a.timestamp, a.payload_length, a.count];
-    let digest = a.digest;
-    answers::print_with(to, &x, &digest);
+fn entry(to: &Stdout, line: Line<'_>, store: &Sheet) -> Option<()> {
+    let a = wotskrale_store_entry(store, line.read(b"n")?.n[0]);
+    let x = Row([a.status, a.subspace, a.timestamp, a.payload_length, a.count]);
+    answers::print_with(to, x, &a.digest);
+    Some(())
 }
 
-fn print_path(to: &Stdout, n: Case, sheet: &[u8], out: &mut [u8]) {
-    let a = wotskrale_store_entry_path(sheet, n.p1, out);
-    answers::print_written(to, a, out);
-}
-
-fn replay_writing(to: &Stdout, n: Case, sheet: &[u8]) {
-    let mut out = [238u8; 256];
-    let m = forms::room(n, &out);
-    print_path(to, n, sheet, &mut out[0..m]);
-}
-
-fn replay_reading(to: &Stdout, n: Case, sheet: &[u8]) {
-    let call = n.call;
-    match call {
-        20 => answers::print_status(to, wotskrale_store_test(sheet)),
-        21 => print_store(to, wotskrale_store_numbers(sheet)),
-        22 => print_entry(to, wotskrale_store_entry(sheet, n.p1)),
-        _ => replay_writing(to, n, sheet),
-    }
-}
-
-// Makes the call with the store that is kept, and prints its answer.
-pub(crate) fn replay(to: &Stdout, n: Case, b1: &[u8], b2: &[u8], sheet: &mut [u8]) {
-    let call = n.call;
-    match call {
-        10 => fresh(to, n, sheet),
-        11 => offer(to, n, b1, b2, sheet),
-        12 => each::replay(to, false, n, sheet),
-        _ => replay_reading(to, n, sheet),
+// Makes the call, and prints its answer.
+pub(crate) fn replay(to: &Stdout, line: Line<'_>, store: &mut Sheet) -> Option<()> {
+    match line.name {
+        "store_fresh" => fresh(to, line, store),
+        "store_offer" => offer(to, line, store),
+        "store_test_each" => each::replay(to, line, store, wotskrale_store_test),
+        "store_test" => line.ask(to, b"", |_| wotskrale_store_test(store)),
+        "store_numbers" => line.ask(to, b"", |_| store_row(wotskrale_store_numbers(store))),
+        "store_entry" => entry(to, line, store),
+        "store_entry_path" => line.write(to, b"no", |c, out| {
+            wotskrale_store_entry_path(store, c.n[0], out)
+        }),
+        _ => kept::keep(line, store),
     }
 }

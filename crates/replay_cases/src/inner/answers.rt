@@ -1,78 +1,65 @@
 // What is printed for a case.
 
+ghost use Rattle.std.specs.Prelude.{◌≤◌};
+
 use convention::Answer;
+use std::fmt;
 use std::io::Stdout;
 
-pub fn print_unreadable(to: &Stdout) {
-    let _ = to.write_all(b"unreadable\n");
-}
+// What a call answers, as numbers, which are printed with spaces between them.
+#[derive(Clone, Copy)]
+pub struct Row<const N: usize>(pub [u64; N]);
 
-pub fn print_end(to: &Stdout) {
-    let _ = to.write_all(b"\n");
-}
-
-fn print_space_if(to: &Stdout, more: bool) {
-    if more {
-        let _ = to.write_all(b" ");
+impl<const N: usize> fmt::Display for Row<N> {
+    fn fmt<W: fmt::Write>(&self, f: &mut fmt::Formatter<W>) -> fmt::Result {
+        for (i, x) in self.0.iter().enumerate() {
+            if 0 < i {
+                f.write_str(" ")?;
+            }
+            write!(f, "{x}")?;
+        }
+        Ok(())
     }
-}
-
-// Numbers with spaces between them, and no end of line.
-pub fn print_row(to: &Stdout, x: &[u64]) {
-    let mut i = 0;
-    while i < x.len() {
-        print_space_if(to, 0 < i);
-        let _ = to.print(x[i]);
-        i += 1;
-    }
-}
-
-// A number with nothing behind it.
-pub fn print_digit(to: &Stdout, x: u64) {
-    let _ = to.print(x);
 }
 
 // A test's answer.
-pub fn print_status(to: &Stdout, status: u64) {
-    let _ = to.print(status);
-    print_end(to);
-}
-
-// An answer of any number of numbers.
-pub fn print_numbers(to: &Stdout, x: &[u64]) {
-    print_row(to, x);
-    print_end(to);
-}
-
-pub fn print_answer(to: &Stdout, a: Answer) {
-    let x = [a.status, a.value];
-    print_numbers(to, &x);
-}
-
-// Numbers, and a buffer behind them.
-pub fn print_with(to: &Stdout, x: &[u64], bytes: &[u8]) {
-    print_row(to, x);
-    let _ = to.write_all(b" ");
-    print_bytes(to, bytes);
-    print_end(to);
-}
-
-// An answer with the output buffer behind it.
-pub fn print_written(to: &Stdout, a: Answer, out: &[u8]) {
-    let x = [a.status, a.value];
-    print_with(to, &x, out);
-}
-
-fn wide(b: u8) -> u64 {
-    b as u64
-}
-
-// Bytes in hexadecimal, with no end of line.
-fn print_bytes(to: &Stdout, s: &[u8]) {
-    let mut i = 0;
-    while i < s.len() {
-        let byte = wide(s[i]);
-        let _ = print!(to; "{byte:02x}");
-        i += 1;
+impl From<u64> for Row<1> {
+    fn from(status: u64) -> Self {
+        Row([status])
     }
+}
+
+impl From<Answer> for Row<2> {
+    fn from(a: Answer) -> Self {
+        Row([a.status, a.value])
+    }
+}
+
+// Bytes, which are printed in hexadecimal.
+#[derive(Clone, Copy)]
+struct Hex<'a>(&'a [u8]);
+
+impl fmt::Display for Hex<'_> {
+    fn fmt<W: fmt::Write>(&self, f: &mut fmt::Formatter<W>) -> fmt::Result {
+        for byte in self.0 {
+            write!(f, "{byte:02x}")?;
+        }
+        Ok(())
+    }
+}
+
+pub fn print_row<const N: usize, A: Into<Row<N>>>(to: &Stdout, answer: A)
+    requires { N ≤ 32 }
+{
+    let row: Row<N> = answer.into();
+    let _ = println!(to; "{row}");
+}
+
+// An answer, and a buffer behind it.
+pub fn print_with<const N: usize, A: Into<Row<N>>>(to: &Stdout, answer: A, bytes: &[u8])
+    requires { N ≤ 32 }
+{
+    let row: Row<N> = answer.into();
+    let hex = Hex(bytes);
+    let _ = println!(to; "{row} {hex}");
 }

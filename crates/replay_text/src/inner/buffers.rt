@@ -1,149 +1,86 @@
-// The buffers of a case: bytes in hexadecimal, numbers of 8 bytes, or a path as document 01 writes it, which is packed. All buffers
-// of a case stand one behind the other in one array, and none is longer than 1,024 bytes. Each function takes the place where the
-// bytes so far end, and gives the place where they end then. The place `BAD` lies outside: it is given where the text is no buffer,
-// or does not fit, and each function hands it on.
+// The buffers of a case: bytes in hexadecimal, numbers of 8 bytes, or a path as document 01 writes it, which is packed. None is longer
+// than 1,024 bytes. There is none where the text is of another form, or does not fit.
+
+ghost use Rattle.std.specs.Prelude.{◌<◌, IfSome};
 
 use crate::inner::pieces;
-use crate::inner::pieces::Number;
+use arrayvec::ArrayVec;
 
-pub const BAD: usize = 4097;
+pub type Buffer = ArrayVec<u8, 1024>;
 
-// How far apart two places are.
-pub fn between(from: usize, to: usize) -> usize {
-    if from <= to {
-        return to - from;
-    }
-    0
-}
-
-// The value of a hexadecimal digit; 16 for any other byte.
-fn digit_value(b: u8) -> u8 {
+// The value of a hexadecimal digit. Small letters alone: `to_digit` would take capitals as well.
+fn digit_value(b: u8) -> Option<u8>
+    ensures { IfSome result (λ d. d < 16) }
+{
     match b {
-        b'0'..=b'9' => b - b'0',
-        b'a'..=b'f' => b - b'a' + 10,
-        _ => 16,
+        b'0'..=b'9' => Some(b - b'0'),
+        b'a'..=b'f' => Some(b - b'a' + 10),
+        _ => None,
     }
 }
 
-fn put_byte(high: u8, low: u8, array: &mut [u8; 4096], at: usize) -> usize {
-    let h = digit_value(high);
-    let l = digit_value(low);
-    if 15 < h {
-        return BAD;
-    }
-    if 15 < l {
-        return BAD;
-    }
-    if 4095 < at {
-        return BAD;
-    }
-    array[at] = 16 * h + l;
-    at + 1
-}
-
-fn put_number(x: Number, array: &mut [u8; 4096], at: usize) -> usize {
-    if !x.ok {
-        return BAD;
-    }
-    if 4088 < at {
-        return BAD;
-    }
-    number::write_u64(array, at, x.value);
-    at + 8
+fn push_number(buffer: &mut Buffer, x: u64) -> Option<()> {
+    buffer.try_extend_from_slice(&x.to_le_bytes()).ok()
 }
 
 // The bytes of a text in hexadecimal, two digits a byte.
-fn fill_bytes(text: &[u8], array: &mut [u8; 4096], from: usize) -> usize {
-    let n = text.len() / 2;
-    if text.len() % 2 != 0 {
-        return BAD;
+fn push_bytes(buffer: &mut Buffer, text: &[u8]) -> Option<()> {
+    let (pairs, odd) = text.as_chunks::<2>();
+    if !odd.is_empty() {
+        return None;
     }
-    let mut at = from;
-    let mut i = 0;
-    while i < n {
-        at = put_byte(text[2 * i], text[2 * i + 1], array, at);
-        i += 1;
+    for [high, low] in pairs {
+        let byte = 16 * digit_value(*high)? + digit_value(*low)?;
+        buffer.try_push(byte).ok()?;
     }
-    at
+    Some(())
 }
 
-// A number of a list, or a component's bytes; `-` is the empty component, and none is an empty text.
-fn fill_piece(form: u8, text: &[u8], array: &mut [u8; 4096], at: usize) -> usize {
-    if form == b'n' {
-        return put_number(pieces::read_number(text), array, at);
+fn push_numbers(buffer: &mut Buffer, text: &[u8]) -> Option<()> {
+    for number in text.split(|b| *b == b'/') {
+        push_number(buffer, pieces::read_number(number)?)?;
     }
-    if text.len() == 0 {
-        return BAD;
-    }
-    if pieces::is(text, b"-") {
-        return at;
-    }
-    fill_bytes(text, array, at)
+    Some(())
 }
 
-// The k pieces between slashes, from `head` on; for a path, where each component ends is written from `table` on.
-fn fill_pieces(
-    form: u8,
-    text: &[u8],
-    k: u64,
-    array: &mut [u8; 4096],
-    table: usize,
-    head: usize,
-) -> usize {
-    let mut row = table;
-    let mut at = head;
-    let mut i: u64 = 0;
-    while i < k {
-        at = fill_piece(form, pieces::piece(text, b'/', i), array, at);
-        if form == b'p' {
-            row = put_number(pieces::is_number(between(head, at) as u64), array, row);
-        }
-        i += 1;
+// A component's bytes; `-` is the empty component, and none is an empty text.
+fn push_component(buffer: &mut Buffer, text: &[u8]) -> Option<()> {
+    match text {
+        [] => None,
+        b"-" => Some(()),
+        _ => push_bytes(buffer, text),
     }
-    at
 }
 
 // A path, packed: the count, the accumulated lengths, the bytes.
-fn fill_path(text: &[u8], array: &mut [u8; 4096], from: usize) -> usize {
-    let mut k: u64 = 0;
-    if !pieces::is(text, b"()") {
-        k = pieces::count_pieces(text, b'/');
+fn push_path(buffer: &mut Buffer, text: &[u8]) -> Option<()> {
+    if text == b"()".as_slice() {
+        return push_number(buffer, 0);
     }
-    if 127 < k {
-        return BAD;
+    push_number(buffer, text.split(|b| *b == b'/').count() as u64)?;
+    let mut bytes = Buffer::new();
+    for component in text.split(|b| *b == b'/') {
+        push_component(&mut bytes, component)?;
+        push_number(buffer, bytes.len() as u64)?;
     }
-    let table = put_number(pieces::is_number(k), array, from);
-    if 4096 < table {
-        return BAD;
-    }
-    fill_pieces(b'p', text, k, array, table, table + 8 * k as usize)
-}
-
-fn fill_form(form: u8, text: &[u8], array: &mut [u8; 4096], from: usize) -> usize {
-    match form {
-        b'x' => fill_bytes(text, array, from),
-        b'n' => fill_pieces(
-            b'n',
-            text,
-            pieces::count_pieces(text, b'/'),
-            array,
-            from,
-            from,
-        ),
-        b'p' => fill_path(text, array, from),
-        _ => BAD,
-    }
+    buffer.try_extend_from_slice(&bytes).ok()
 }
 
 // A buffer: x and bytes, n and numbers, or p and a path.
-pub fn fill_buffer(text: &[u8], array: &mut [u8; 4096], from: usize) -> usize {
-    let end = text.len();
-    if end == 0 {
-        return BAD;
+pub fn read_buffer(text: &[u8]) -> Option<Buffer> {
+    let mut buffer = Buffer::new();
+    let (form, text) = text.split_first()?;
+    match *form {
+        b'x' => push_bytes(&mut buffer, text)?,
+        b'n' => push_numbers(&mut buffer, text)?,
+        b'p' => push_path(&mut buffer, text)?,
+        _ => return None,
     }
-    let at = fill_form(text[0], &text[1..end], array, from);
-    if 1024 < between(from, at) {
-        return BAD;
-    }
-    at
+    Some(buffer)
+}
+
+// A digest: a buffer of 32 bytes.
+pub fn read_digest(text: &[u8]) -> Option<[u8; 32]> {
+    let buffer = read_buffer(text)?;
+    buffer.as_array().copied()
 }

@@ -1,9 +1,0 @@
--- Each name of the table is looked at once.
-use Prim.Native.Nat.{◌≤◌, ◌-◌}
-use Rattle.replay_text.proofs.inner.pieces.find.Given as goal
-
-abbrev pub invariant-loop-i : goal.invariant-loop-i
-invariant-loop-i l = l.i ≤ l.n
-
-abbrev pub decreases-loop-i : goal.decreases-loop-i
-decreases-loop-i l = l.n - l.i
