@@ -1,1 +1,1 @@
-pub mod Leaves
+pub mod Brought

@@ -7,175 +7,99 @@
 
 #![tactic(auto)]
 
-ghost use Rattle.std.specs.Prelude.{false, Ok, ◌≡◌, ◌+◌, ◌≤◌, length};
-ghost use Rattle.keyform.specs.Answering.{max_answer};
-ghost use Rattle.keyinput.specs.Held.{Fits, held_in, Scratch};
-ghost use Rattle.key.specs.Leaves.{brought_in, Leaves};
+ghost use Rattle.std.specs.Prelude.{false, Ok, OnOk, true, ◌≡◌};
+ghost use Rattle.keyform.specs.Answering.{held_after};
+ghost use Rattle.key.specs.Brought.{brought_in};
 
-use keyask::inner::{MAX_BYTES, MAX_PACKED, MAX_SIZES};
-use keyform::MAX_LINE;
-use keyinput::inner;
+use keyask::inner::Room;
 use keyinput::inner::Pending;
 use std::io;
 use std::io::{ErrorKind, Read, Stdin, Stdout};
 
-// Whether there is more to read, and what is held of the line that has not ended.
-#[derive(Clone, Copy)]
-struct Went {
-    more: bool,
-    pending: Pending,
-}
+// The most bytes that one read brings, and that one write writes: more than any answer has.
+const CHUNK: usize = 65536;
 
 // The bytes of a chunk: the answers to the lines that it ends are written, as many at a time as there is room for. Unless a write
 // fails the whole chunk is taken.
 fn answer_chunk(
     to: &Stdout,
-    p: Pending,
-    line: &mut [u8],
+    pending: &mut Pending,
     chunk: &[u8],
-    lengths: &mut [u8],
-    bytes: &mut [u8],
-    packed: &mut [u8],
-    next: &mut [u8],
-    out: &mut [u8],
-) -> Went
-    requires { Fits p line.old × Scratch lengths.old bytes.old packed.old next.old × (max_answer + 1 ≤ length out.old) }
-    ensures { Leaves (held_in p line.old) chunk.now result line.new }
+    room: &mut Room,
+    out: &mut [u8; CHUNK],
+) -> io::Result<()>
+    ensures { OnOk result (pending.new ≡ held_after pending.old chunk.now) }
 {
-    let mut s = p;
-    let mut from: usize = 0;
-    while from < chunk.len() {
-        let end = chunk.len();
-        let fed = inner::feed(
-            s,
-            line,
-            &chunk[from..end],
-            lengths,
-            bytes,
-            packed,
-            next,
-            out,
-        );
-        let n = fed.written;
-        s = fed.pending;
-        if to.write_all(&out[0..n]).is_err() {
-            return Went {
-                more: false,
-                pending: s,
-            };
-        }
-        from += fed.used;
+    let mut rest = chunk;
+    while !rest.is_empty() {
+        let fed = pending.feed(rest, room, out);
+        to.write_all(&out[..fed.written])?;
+        rest = &rest[fed.used..];
     }
-    Went {
-        more: true,
-        pending: s,
-    }
+    Ok(())
 }
 
 // What the input's end adds.
 fn answer_last(
     to: &Stdout,
-    p: Pending,
-    line: &[u8],
-    lengths: &mut [u8],
-    bytes: &mut [u8],
-    packed: &mut [u8],
-    next: &mut [u8],
-    out: &mut [u8],
-)
-    requires { Fits p line.now × Scratch lengths.old bytes.old packed.old next.old × (max_answer + 1 ≤ length out.old) }
-{
-    let n = inner::finish(p, line, lengths, bytes, packed, next, out);
-    if n <= out.len() {
-        let _ = to.write_all(&out[0..n]);
-    }
+    pending: &Pending,
+    room: &mut Room,
+    out: &mut [u8; CHUNK],
+) -> io::Result<()> {
+    let n = pending.finish(room, out);
+    to.write_all(&out[..n])
 }
 
-// What a read brought: `got` bytes at the front of the chunk, none where the input has ended, or an error where it failed.
+// What a read brought: `got` bytes at the front of the chunk, none where the input has ended, or an error where it failed. Whether
+// there is more to read.
 fn answer_read(
     to: &Stdout,
     got: io::Result<usize>,
-    p: Pending,
-    line: &mut [u8],
+    pending: &mut Pending,
     chunk: &[u8],
-    lengths: &mut [u8],
-    bytes: &mut [u8],
-    packed: &mut [u8],
-    next: &mut [u8],
-    out: &mut [u8],
-) -> Went
-    requires { Fits p line.old × Scratch lengths.old bytes.old packed.old next.old × (max_answer + 1 ≤ length out.old) }
-    ensures leaves { Leaves (held_in p line.old) (brought_in got chunk.now) result line.new }
-    ensures more_value { got ≡ Ok 0 → result.more ≡ false }
+    room: &mut Room,
+    out: &mut [u8; CHUNK],
+) -> bool
+    ensures leaves { result ≡ true → pending.new ≡ held_after pending.old (brought_in got chunk.now) }
+    ensures more_value { got ≡ Ok 0 → result ≡ false }
 {
     match got {
-        Err(e) => {
-            // Where a signal came before a byte did, the read is made again.
-            let more = e.kind() == ErrorKind::Interrupted;
-            Went { more, pending: p }
-        }
+        // Where a signal came before a byte did, the read is made again.
+        Err(e) => e.kind() == ErrorKind::Interrupted,
         Ok(0) => {
-            answer_last(to, p, line, lengths, bytes, packed, next, out);
-            Went {
-                more: false,
-                pending: p,
-            }
+            let _ = answer_last(to, pending, room, out);
+            false
         }
         Ok(count) => {
             let n = count.min(chunk.len());
-            answer_chunk(to, p, line, &chunk[..n], lengths, bytes, packed, next, out)
+            answer_chunk(to, pending, &chunk[..n], room, out).is_ok()
         }
     }
 }
 
-// One read. Nothing is said of what is held beside that it fits: what a read brings is not known from outside.
+// One read. Nothing is said of what is held: what a read brings is not known from outside.
 fn turn(
     from: &mut Stdin,
     to: &Stdout,
-    p: Pending,
-    line: &mut [u8],
-    lengths: &mut [u8],
-    bytes: &mut [u8],
-    packed: &mut [u8],
-    next: &mut [u8],
-    out: &mut [u8],
-) -> Went
-    requires { Fits p line.old × Scratch lengths.old bytes.old packed.old next.old × (max_answer + 1 ≤ length out.old) }
-    ensures { Fits result.pending line.new }
-{
-    let mut chunk = [0u8; 65536];
+    pending: &mut Pending,
+    room: &mut Room,
+    out: &mut [u8; CHUNK],
+) -> bool {
+    let mut chunk = [0u8; CHUNK];
     let got = from.read(&mut chunk);
-    answer_read(to, got, p, line, &chunk, lengths, bytes, packed, next, out)
+    answer_read(to, got, pending, &chunk, room, out)
 }
 
 // The count of turns is there so that the loop is seen to end: no input uses it up.
 fn main(rt: HostRuntime) {
     let mut from = rt.stdin();
     let to = rt.stdout();
-    let mut line = [0u8; MAX_LINE];
-    let mut lengths = [0u8; MAX_SIZES];
-    let mut bytes = [0u8; MAX_BYTES];
-    let mut packed = [0u8; MAX_PACKED];
-    let mut next = [0u8; MAX_PACKED];
-    let mut out = [0u8; 65536];
-    let mut s = inner::start();
-    let mut turns = u64::MAX;
-    while 0 < turns {
-        let t = turn(
-            &mut from,
-            &to,
-            s,
-            &mut line,
-            &mut lengths,
-            &mut bytes,
-            &mut packed,
-            &mut next,
-            &mut out,
-        );
-        s = t.pending;
-        if !t.more {
+    let mut pending = Pending::new();
+    let mut room = Room::new();
+    let mut out = [0u8; CHUNK];
+    for _ in 0..u64::MAX {
+        if !turn(&mut from, &to, &mut pending, &mut room, &mut out) {
             break;
         }
-        turns -= 1;
     }
 }

@@ -1,19 +1,23 @@
 -- From a text to the outcome of a question on it: the path is read, made, and handed to the call; each step's outcome decides
 -- the next.
-use Prim.Native.Nat.{ℕ, ◌-◌, ◌*◌, ◌≤◌}
+use Prim.Native.Nat.{ℕ, ◌*◌, ◌≤◌}
+use mathlib.Core.Bool.{Bool, true, false, cond}
 use mathlib.Core.List.{List}
 use mathlib.Core.Option.{Option, none, some}
 use mathlib.Core.Path.{◌≡◌, refl, sym, ◌∙◌, ap, subst}
 use native.Mathlib.Omega.{arith}
+use lib.Dec.{ltb}
 use lib.ListN.{length, take}
+use Rattle.std.specs.Prelude.{None, Some, Ok, IsSome}
+use Rattle.std.specs.Prelude as code
 use Rattle.willow.specs.declared.Counted.{Counted}
 use Rattle.willow.specs.declared.Limits.{Limits}
 use Rattle.willow.specs.declared.Refusal.{Refusal}
-use Rattle.willow.specs.declared.Refusal.TheVariants.{BadKind}
+use Rattle.willow.specs.declared.Refusal.TheVariants.{BadKind, PathTooLong, TooManyComponents, ComponentTooLong}
 use Rattle.willow.specs.Answers.{counted_outcome, written_length, written_buffer, packed_outcome, on_path, limits_refusal, unless}
 use Rattle.willow.specs.Construction.{admitted}
 use Rattle.willow.specs.Limits.{max_word}
-use Rattle.willow.specs.Lists.{All}
+use Rattle.willow.specs.Lists.{All, any}
 use Rattle.willow.specs.Numbers.{Bytes}
 use Rattle.willow.specs.Packed.{joined}
 use Rattle.willow.specs.Paths.{Path, path_length}
@@ -26,67 +30,77 @@ use Rattle.keyform.specs.Answering.{on_made, read_outcome}
 use Rattle.keyform.specs.Reading.{read_path, asks, with_question}
 use Rattle.keyform.specs.Wording as wording
 use Rattle.keyform.proofs.PathTextLaws.{path_written}
-use Rattle.keyread.specs.declared.inner.Slices.{Slices}
-use Rattle.keyread.specs.declared.inner.Slices.TheVariants as slices
 use Rattle.keyread.specs.Parts.{PathRead, sizes}
 use Rattle.keyread.proofs.PieceLaws.{sizes_length}
-use Rattle.keyask.specs.declared.inner.Found.{Found}
-use Rattle.keyask.specs.declared.inner.Found.TheVariants as found
-use Rattle.keyask.specs.Found.{max_packed, Stands, Finds, Sound, found_as, CountReadable, made_outcome, text_outcome}
+use Rattle.keyask.specs.Found.{max_packed, Found, Stands, Finds, Sound, found_as, CountReadable, made_outcome, text_outcome}
 use Rattle.keyask.proofs.FoundLaws.{wrote_found, made_sound, slices_made, on_stands, successor_sound, next_greater_sound}
 
 -- THE PATH OF A TEXT, as its lengths and bytes were read
 pub record SlicesRead (s lengths bytes : List ℕ) (k n : ℕ) : Type 0 where
   pub path : Path
   pub read : read_path s ≡ some path
-  pub lengths_part : take (8 * k - 0) lengths ≡ sizes path
-  pub bytes_part_lem : take (n - 0) bytes ≡ joined path
+  pub lengths_part : take (8 * k) lengths ≡ sizes path
+  pub bytes_part_lem : take n bytes ≡ joined path
   pub lengths_within : 8 * k ≤ length lengths
   pub bytes_within : n ≤ length bytes
   pub each_byte : All Bytes path
   pub word : path_length path ≤ max_word
 
-pub slices_read : (s lengths₀ bytes₀ lengths bytes : List ℕ) (k n : ℕ) (r : Slices) → PathRead (read_path s) lengths₀ bytes₀ r lengths bytes
-    → r ≡ slices.Read k n → length bytes₀ ≤ max_word → SlicesRead s lengths bytes k n
-slices_read s lengths₀ bytes₀ lengths bytes k n r h e w = go (subst (λ x. PathRead (read_path s) lengths₀ bytes₀ x lengths bytes) e h)
-  where
-    go : PathRead (read_path s) lengths₀ bytes₀ (slices.Read k n) lengths bytes → SlicesRead s lengths bytes k n
-    go (p, read, l, b, count, total, lengths_room, bytes_room) =
-        let sl = sizes_length p in
-        let jl = joined_length p in
-        let le = ap length l ∙ length_overwrite lengths₀ 0 (sizes p) (omega arith) in
-        let be = ap length b ∙ length_overwrite bytes₀ 0 (joined p) (omega arith) in
-        record {
-          path = p;
-          read = read;
-          lengths_part = rw l (front_written lengths₀ (sizes p) (8 * k - 0) (omega arith));
-          bytes_part_lem = rw b (front_written bytes₀ (joined p) (n - 0) (omega arith));
-          lengths_within = omega arith;
-          bytes_within = omega arith;
-          each_byte = (path_written s p read).1;
-          word = omega arith;
-        }
-
-pub not_read : (s lengths₀ bytes₀ lengths bytes : List ℕ) (L : Limits) (r : Slices) → PathRead (read_path s) lengths₀ bytes₀ r lengths bytes
-    → r ≡ slices.Bad → made_outcome L (read_path s) ≡ refused BadKind
-not_read s lengths₀ bytes₀ lengths bytes L r h e =
-    ap (made_outcome L) (subst (λ x. PathRead (read_path s) lengths₀ bytes₀ x lengths bytes) e h).0
+pub slices_read : (s lengths₀ bytes₀ lengths bytes : List ℕ) (k n : ℕ) → PathRead (read_path s) lengths₀ bytes₀ (Some (k, n)) lengths bytes
+    → length bytes₀ ≤ max_word → SlicesRead s lengths bytes k n
+slices_read s lengths₀ bytes₀ lengths bytes k n (p, read, l, b, count, total, lengths_room, bytes_room) w =
+    let sl = sizes_length p in
+    let jl = joined_length p in
+    let le = ap length l ∙ length_overwrite lengths₀ 0 (sizes p) (omega arith) in
+    let be = ap length b ∙ length_overwrite bytes₀ 0 (joined p) (omega arith) in
+    record {
+      path = p;
+      read = read;
+      lengths_part = rw l (front_written lengths₀ (sizes p) (8 * k) (omega arith));
+      bytes_part_lem = rw b (front_written bytes₀ (joined p) n (omega arith));
+      lengths_within = omega arith;
+      bytes_within = omega arith;
+      each_byte = (path_written s p read).1;
+      word = omega arith;
+    }
 
 -- .. made by `from_slices`
 pub made_path : (L : Limits) (s lengths bytes : List ℕ) (k n : ℕ) (c : Counted) (before behind : List ℕ) → SlicesRead s lengths bytes k n
     → max_packed ≤ length before
-    → counted_outcome c ≡ written_length (packed_outcome (slices_outcome L (take (8 * k - 0) lengths) (take (n - 0) bytes))) before
-    → behind ≡ written_buffer (packed_outcome (slices_outcome L (take (8 * k - 0) lengths) (take (n - 0) bytes))) before
+    → counted_outcome c ≡ written_length (packed_outcome (slices_outcome L (take (8 * k) lengths) (take n bytes))) before
+    → behind ≡ written_buffer (packed_outcome (slices_outcome L (take (8 * k) lengths) (take n bytes))) before
     → CountReadable c behind × Finds L (made_outcome L (read_path s)) (found_as c behind) behind
 made_path L s lengths bytes k n c before behind f room a w =
     let p = f.path in
-    let o : slices_outcome L (take (8 * k - 0) lengths) (take (n - 0) bytes) ≡ under_limits L (admitted L p) =
-    ap (λ x. slices_outcome L x (take (n - 0) bytes)) f.lengths_part ∙ ap (slices_outcome L (sizes p)) f.bytes_part_lem ∙ slices_made L p f.word in
+    let o : slices_outcome L (take (8 * k) lengths) (take n bytes) ≡ under_limits L (admitted L p) =
+    ap (λ x. slices_outcome L x (take n bytes)) f.lengths_part ∙ ap (slices_outcome L (sizes p)) f.bytes_part_lem ∙ slices_made L p f.word in
     let h = wrote_found L (under_limits L (admitted L p)) c before behind (made_sound L p f.each_byte) room
     (record { answered = a ∙ ap (λ x. written_length (packed_outcome x) before) o; written = w ∙ ap (λ x. written_buffer (packed_outcome x) before) o }) in
     (h.0, rw f.read h.1)
 
--- A QUESTION on a path that was made: refused and none are handed on.
+-- .. so there is a path where it is not refused
+never_absent : (L : Limits) (o : Option Path) → made_outcome L o ≡ absent → ⊥
+unfolding under_limits admitted
+never_absent L none e = cc
+never_absent L (some p) e = go (limits_refusal L) (ltb L.mpl (path_length p)) (ltb L.mcc (length p)) (any (λ c. ltb L.mcl (length c)) p) e
+  where
+    go : (r : Option Refusal) (a b c : Bool)
+        → unless r (cond a (refused PathTooLong) (cond b (refused TooManyComponents) (cond c (refused ComponentTooLong) (value p)))) ≡ absent → ⊥
+    go (some r) a b c e = cc
+    go none true b c e = cc
+    go none false true c e = cc
+    go none false false true e = cc
+    go none false false false e = cc
+
+pub some_made : (L : Limits) (o : Option Path) (path : code.Option (ℕ × ℕ)) (buffer : List ℕ) → Finds L (made_outcome L o) (Ok path) buffer → IsSome path
+some_made L o None buffer e = absurd (never_absent L o e)
+some_made L o (Some path) buffer f = refl
+
+-- what was found, as the answer has it
+pub found_is : (L : Limits) (o : Outcome Path) (buffer : List ℕ) (r f g : Found) → r ≡ f → r ≡ g → Finds L o f buffer → Finds L o g buffer
+found_is L o buffer r f g e h = subst (λ x. Finds L o x buffer) (sym e ∙ h)
+
+-- A QUESTION on a path that was made: what is refused is handed on.
 abbrev asked_by : Limits → Option Path → (Path → Outcome Path) → Outcome Path
 asked_by L none f = refused BadKind
 asked_by L (some p) f = under_limits L (on_made (admitted L p) f)
@@ -110,17 +124,6 @@ next_greater_asked : (L : Limits) (o : Option Path)
 next_greater_asked L none = refl
 next_greater_asked L (some p) = refl
 
--- what was found, by its case
-pub found_refused : (L : Limits) (o : Outcome Path) (r : Refusal) (f : Found) (buffer : List ℕ) → Finds L o f buffer → f ≡ found.Refused r → o ≡ refused r
-found_refused L o r f buffer h e = subst (λ x. Finds L o x buffer) e h
-
-pub found_nothing : (L : Limits) (o : Outcome Path) (f : Found) (buffer : List ℕ) → Finds L o f buffer → f ≡ found.Nothing → o ≡ absent
-found_nothing L o f buffer h e = subst (λ x. Finds L o x buffer) e h
-
-pub found_path : (L : Limits) (o : Outcome Path) (size k : ℕ) (f : Found) (buffer : List ℕ) → Finds L o f buffer → f ≡ found.Path size k
-    → (p : Path) × (o ≡ value p) × Stands L p size k buffer
-found_path L o size k f buffer h e = subst (λ x. Finds L o x buffer) e h
-
 -- THE TWO QUESTIONS. `ask` is what the call's contract says of a lent path.
 module _ (L : Limits) (s : List ℕ) (ask : Path → Outcome Path) (whole : Outcome Path) (means : whole ≡ asked_by L (read_path s) ask) where
   handed_on : whole ≡ on_made (made_outcome L (read_path s)) ask
@@ -129,18 +132,13 @@ module _ (L : Limits) (s : List ℕ) (ask : Path → Outcome Path) (whole : Outc
   asked_refused : (r : Refusal) → made_outcome L (read_path s) ≡ refused r → whole ≡ refused r
   asked_refused r e = handed_on ∙ ap (λ o. on_made o ask) e
 
-  asked_nothing : made_outcome L (read_path s) ≡ absent → whole ≡ absent
-  asked_nothing e = handed_on ∙ ap (λ o. on_made o ask) e
-
   asked_path : (p : Path) (size k : ℕ) (packed : List ℕ) (c : Counted) (before behind : List ℕ) → made_outcome L (read_path s) ≡ value p
       → Stands L p size k packed → Sound L (ask p) → max_packed ≤ length before
-      → counted_outcome c ≡ written_length (packed_outcome (on_path L (take (size - 0) packed) k ask)) before
-      → behind ≡ written_buffer (packed_outcome (on_path L (take (size - 0) packed) k ask)) before
+      → counted_outcome c ≡ written_length (packed_outcome (on_path L (take size packed) k ask)) before
+      → behind ≡ written_buffer (packed_outcome (on_path L (take size packed) k ask)) before
       → CountReadable c behind × Finds L whole (found_as c behind) behind
   asked_path p size k packed c before behind e st sound room a w =
-      let z : size - 0 ≡ size = omega arith in
-      let o : on_path L (take (size - 0) packed) k ask ≡ whole =
-      ap (λ m. on_path L (take m packed) k ask) z ∙ on_stands L p size k packed ask st ∙ sym (handed_on ∙ ap (λ x. on_made x ask) e) in
+      let o : on_path L (take size packed) k ask ≡ whole = on_stands L p size k packed ask st ∙ sym (handed_on ∙ ap (λ x. on_made x ask) e) in
       let sw : Sound L whole = subst (Sound L) (sym (handed_on ∙ ap (λ x. on_made x ask) e)) sound in
       wrote_found L whole c before behind sw room
       (record { answered = a ∙ ap (λ x. written_length (packed_outcome x) before) o; written = w ∙ ap (λ x. written_buffer (packed_outcome x) before) o })
@@ -155,26 +153,20 @@ module _ (L : Limits) (s : List ℕ) where
   pub successor_refused : (r : Refusal) → made_outcome L (read_path s) ≡ refused r → text_outcome L wording.successor_of s ≡ refused r
   successor_refused = asked_refused L s (least.successor_of L) (text_outcome L wording.successor_of s) successor_means
 
-  pub successor_nothing : made_outcome L (read_path s) ≡ absent → text_outcome L wording.successor_of s ≡ absent
-  successor_nothing = asked_nothing L s (least.successor_of L) (text_outcome L wording.successor_of s) successor_means
-
   pub next_greater_refused : (r : Refusal) → made_outcome L (read_path s) ≡ refused r → text_outcome L wording.next_greater_of s ≡ refused r
   next_greater_refused = asked_refused L s (least.next_greater_of L) (text_outcome L wording.next_greater_of s) next_greater_means
 
-  pub next_greater_nothing : made_outcome L (read_path s) ≡ absent → text_outcome L wording.next_greater_of s ≡ absent
-  next_greater_nothing = asked_nothing L s (least.next_greater_of L) (text_outcome L wording.next_greater_of s) next_greater_means
-
   module _ (p : Path) (size k : ℕ) (packed : List ℕ) (c : Counted) (before behind : List ℕ) (e : made_outcome L (read_path s) ≡ value p)
       (st : Stands L p size k packed) (room : max_packed ≤ length before) where
-    pub successor_found : counted_outcome c ≡ written_length (packed_outcome (on_path L (take (size - 0) packed) k (least.successor_of L))) before
-        → behind ≡ written_buffer (packed_outcome (on_path L (take (size - 0) packed) k (least.successor_of L))) before
+    pub successor_found : counted_outcome c ≡ written_length (packed_outcome (on_path L (take size packed) k (least.successor_of L))) before
+        → behind ≡ written_buffer (packed_outcome (on_path L (take size packed) k (least.successor_of L))) before
         → CountReadable c behind × Finds L (text_outcome L wording.successor_of s) (found_as c behind) behind
     successor_found =
         asked_path L s (least.successor_of L) (text_outcome L wording.successor_of s) successor_means p size k packed c before behind e st
         (successor_sound L p st.accepted st.valid) room
 
-    pub next_greater_found : counted_outcome c ≡ written_length (packed_outcome (on_path L (take (size - 0) packed) k (least.next_greater_of L))) before
-        → behind ≡ written_buffer (packed_outcome (on_path L (take (size - 0) packed) k (least.next_greater_of L))) before
+    pub next_greater_found : counted_outcome c ≡ written_length (packed_outcome (on_path L (take size packed) k (least.next_greater_of L))) before
+        → behind ≡ written_buffer (packed_outcome (on_path L (take size packed) k (least.next_greater_of L))) before
         → CountReadable c behind × Finds L (text_outcome L wording.next_greater_of s) (found_as c behind) behind
     next_greater_found =
         asked_path L s (least.next_greater_of L) (text_outcome L wording.next_greater_of s) next_greater_means p size k packed c before behind e st

@@ -1,10 +1,10 @@
 -- A valid path under accepted limits fits into the buffers, packed; so a call that writes one is never refused for room, and what
 -- it answers and writes is what its outcome says. A path read from a text is what `from_slices` makes of its lengths and bytes.
-use Prim.Native.Nat.{ℕ, ◌+◌, ◌-◌, ◌≤◌}
+use Prim.Native.Nat.{ℕ, ◌≤◌}
 use mathlib.Core.Bool.{true}
 use mathlib.Core.List.{List, [], ◌∷◌, ◌++◌}
 use mathlib.Core.Option.{Option, none, some}
-use mathlib.Core.Path.{◌≡◌, refl, sym, ◌∙◌, ap, subst}
+use mathlib.Core.Path.{◌≡◌, refl, sym, ◌∙◌, ap}
 use native.Mathlib.Omega.{arith}
 use lib.Dec.{leb}
 use lib.ListN.{length, take, drop, length-append}
@@ -33,7 +33,6 @@ use Rattle.greatest.specs.Greatest.{greatest_outcome}
 use Rattle.least_writing.specs.Written.{path_or}
 use Rattle.least.specs.Places as least
 use Rattle.keyread.specs.Parts.{sizes}
-use Rattle.keyask.specs.declared.inner.Found.TheVariants as found
 use Rattle.keyask.specs.Found.{max_packed, Stands, Finds, Wrote, Sound, found_as, CountReadable}
 
 -- A VALID PATH, packed
@@ -166,15 +165,3 @@ sizes_slices p h = record { sizes = refl; words = components_short p h; content 
 
 pub slices_made : (L : Limits) (p : Path) → path_length p ≤ max_word → slices_outcome L (sizes p) (joined p) ≡ under_limits L (admitted L p)
 slices_made L p h = ap (under_limits L) (construction.made_as L (sizes p) (joined p) p (sizes_slices p h))
-
--- THE COUNT of a path that a call wrote, read from the part that it wrote
-pub count_readable : (c : Counted) (n : ℕ) (buffer : List ℕ) → CountReadable c buffer → c ≡ counted.Count n → (n ≤ length buffer) × Packed (take (n - 0) buffer)
-count_readable c n buffer h e =
-    let z : n - 0 ≡ n = omega arith in
-    let k : CountReadable (counted.Count n) buffer = subst (λ x. CountReadable x buffer) e h in
-    (k.0, rw z k.1)
-
-pub count_found : (c : Counted) (n k : ℕ) (buffer : List ℕ) → c ≡ counted.Count n → k ≡ packed_count (take (n - 0) buffer) → found.Path n k ≡ found_as c buffer
-count_found c n k buffer e h =
-    let z : n - 0 ≡ n = omega arith in
-    ap (found.Path n) (h ∙ ap (λ m. packed_count (take m buffer)) z) ∙ ap (λ x. found_as x buffer) (sym e)

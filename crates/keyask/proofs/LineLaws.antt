@@ -1,11 +1,12 @@
 -- A line's outcome by the case in which it was read: 3, a question on the rest of the line as a path, or the greatest path.
-use Prim.Native.Nat.{ℕ, ◌-◌, ◌≤◌}
+use Prim.Native.Nat.{ℕ, ◌≤◌}
 use mathlib.Core.List.{List}
-use mathlib.Core.Path.{◌≡◌, sym, ◌∙◌, ap, subst}
-use native.Mathlib.Omega.{arith}
-use lib.ListN.{length, take, drop, length-drop}
-use lib.Seq.{take_all}
+use mathlib.Core.Path.{◌≡◌, sym, ◌∙◌, ap}
+use lib.ListN.{length}
 use borrow.Author.Tests.{le-leb}
+use denote.Ref.{Bor}
+use Rattle.std.specs.Prelude.{None, Some}
+use Rattle.std.specs.Prelude as code
 use Rattle.willow.specs.declared.Counted.{Counted}
 use Rattle.willow.specs.declared.Limits.{Limits}
 use Rattle.willow.specs.declared.Refusal.TheVariants.{BadKind}
@@ -15,39 +16,29 @@ use Rattle.greatest.specs.Greatest.{greatest_outcome}
 use Rattle.keyform.specs.Answering.{line_outcome, read_outcome}
 use Rattle.keyform.specs.Reading.{read_line}
 use Rattle.keyform.specs.Wording.{max_line, successor_of, next_greater_of}
-use Rattle.keyread.specs.declared.inner.Line as code-line
-use Rattle.keyread.specs.declared.inner.Line.TheVariants as line
-use Rattle.keyread.specs.Parts.{line_read, place_within}
+use Rattle.keyread.specs.declared.inner.Question as asked
+use Rattle.keyread.specs.declared.inner.Question.TheVariants.{Successor, NextGreater, Greatest}
+use Rattle.keyread.specs.Parts.{line_read}
 use Rattle.keyask.specs.Found.{max_packed, Finds, found_as, CountReadable, text_outcome}
 use Rattle.keyask.proofs.FoundLaws.{wrote_found, greatest_sound}
 
-module _ (s : List ℕ) (within : length s ≤ max_line) (r : code-line.Line) (reads : line_read s r ≡ read_line s) where
-  line_is : (q : code-line.Line) → r ≡ q → line_outcome s ≡ read_outcome (line_read s q)
+module _ (s : List ℕ) (within : length s ≤ max_line) (r : code.Option (Limits × asked.Question)) (reads : line_read r ≡ read_line s) where
+  line_is : (q : code.Option (Limits × asked.Question)) → r ≡ q → line_outcome s ≡ read_outcome (line_read q)
   unfolding line_outcome
-  line_is q e = rw (le-leb (length s) max_line within) (ap read_outcome (sym reads ∙ ap (line_read s) e))
+  line_is q e = rw (le-leb (length s) max_line within) (ap read_outcome (sym reads ∙ ap line_read e))
 
-  pub line_bad : r ≡ line.Bad → line_outcome s ≡ refused BadKind
-  line_bad e = line_is line.Bad e
+  pub line_bad : r ≡ None → line_outcome s ≡ refused BadKind
+  line_bad e = line_is None e
 
-  pub line_greatest : (L : Limits) → r ≡ line.Greatest L → line_outcome s ≡ greatest_outcome L
-  line_greatest L e = line_is (line.Greatest L) e
+  module _ (L : Limits) (q : asked.Question) (line : r ≡ Some (L, q)) where
+    pub line_greatest : q ≡ Greatest → line_outcome s ≡ greatest_outcome L
+    line_greatest e = line_is (Some (L, Greatest)) (line ∙ ap (λ x. Some (L, x)) e)
 
-  -- the rest of the line, from the path's place on
-  rest_whole : (at : ℕ) → at ≤ length s → take (length s - at) (drop at s) ≡ drop at s
-  rest_whole at h = take_all (length s - at) (drop at s) (omega (arith, length-drop at s))
+    pub line_successor : (text : Bor (List ℕ)) → q ≡ Successor text → line_outcome s ≡ text_outcome L successor_of text.now
+    line_successor text e = line_is (Some (L, Successor text)) (line ∙ ap (λ x. Some (L, x)) e)
 
-  module _ (place : place_within s r) (L : Limits) (at : ℕ) where
-    pub successor_place : r ≡ line.Successor L at → at ≤ length s
-    successor_place e = subst (place_within s) e place
-
-    pub next_greater_place : r ≡ line.NextGreater L at → at ≤ length s
-    next_greater_place e = subst (place_within s) e place
-
-    pub line_successor : r ≡ line.Successor L at → line_outcome s ≡ text_outcome L successor_of (take (length s - at) (drop at s))
-    line_successor e = line_is (line.Successor L at) e ∙ ap (text_outcome L successor_of) (sym (rest_whole at (successor_place e)))
-
-    pub line_next_greater : r ≡ line.NextGreater L at → line_outcome s ≡ text_outcome L next_greater_of (take (length s - at) (drop at s))
-    line_next_greater e = line_is (line.NextGreater L at) e ∙ ap (text_outcome L next_greater_of) (sym (rest_whole at (next_greater_place e)))
+    pub line_next_greater : (text : Bor (List ℕ)) → q ≡ NextGreater text → line_outcome s ≡ text_outcome L next_greater_of text.now
+    line_next_greater text e = line_is (Some (L, NextGreater text)) (line ∙ ap (λ x. Some (L, x)) e)
 
 -- the greatest path, as `new_max` wrote it
 pub greatest_found : (L : Limits) (c : Counted) (before behind : List ℕ) → max_packed ≤ length before

@@ -1,5 +1,6 @@
 -- What a question on a key line comes to, with the path in a buffer.
-use Rattle.std.specs.Prelude.{ℕ, ◌+◌, ◌*◌, ◌/◌, ◌≤◌, List, ◌≡◌, length, take}
+use Rattle.std.specs.Prelude.{ℕ, ◌+◌, ◌*◌, ◌≤◌, List, ◌≡◌, None, Some, Result, Ok, Err, length, take}
+use Rattle.std.specs.Prelude as code
 use Rattle.std.proofs.Math.Option.{Option, none, some}
 use Rattle.willow.specs.declared.Counted.{Counted}
 use Rattle.willow.specs.declared.Counted.TheVariants as counted
@@ -14,21 +15,12 @@ use Rattle.willow.specs.Refusals.{Outcome, refused, absent, value}
 use Rattle.construction.specs.Making.{under_limits}
 use Rattle.keyform.specs.Answering.{read_outcome}
 use Rattle.keyform.specs.Reading.{asks, read_path, with_question}
-use Rattle.keyform.specs.Wording.{max_line, Question}
-use Rattle.keyask.specs.declared.inner.Found.{Found}
-use Rattle.keyask.specs.declared.inner.Found.TheVariants as found
+use Rattle.keyform.specs.Wording.{Question}
+use Rattle.willow.specs.declared.Refusal.{Refusal}
 
 -- The most bytes of a packed path under limits within the bounds.
 abbrev pub max_packed : ℕ
 max_packed = 8 + 8 * max_mcc + max_mpl
-
--- The most bytes that the lengths of a path in a line take, and the most that its bytes take: of every two bytes of a line one
--- length and one byte can come at most.
-abbrev pub max_sizes : ℕ
-max_sizes = 4 * max_line + 8
-
-abbrev pub max_bytes : ℕ
-max_bytes = max_line / 2
 
 -- A path that stands at the front of a buffer in its packed form, valid under accepted limits.
 pub record Stands (L : Limits) (p : Path) (size count : ℕ) (buffer : List ℕ) : Type 0 where
@@ -38,11 +30,20 @@ pub record Stands (L : Limits) (p : Path) (size count : ℕ) (buffer : List ℕ)
   pub packed : take size buffer ≡ pack p
   pub counted : count ≡ length p
 
--- The outcome, as it was found under limits L: refused, none, or a path that stands in the buffer.
+-- What a question comes to: refused, none, or a path that stands packed at the front of a buffer, with its size and its count.
+abbrev pub Found : Type 0
+Found = Result (code.Option (ℕ × ℕ)) Refusal
+
+-- The outcome, as it was found under limits L.
 abbrev pub Finds : Limits → Outcome Path → Found → List ℕ → Type 0
-Finds L o (found.Refused r) buffer = o ≡ refused r
-Finds L o found.Nothing buffer = o ≡ absent
-Finds L o (found.Path size count) buffer = (p : Path) × (o ≡ value p) × Stands L p size count buffer
+Finds L o (Err r) buffer = o ≡ refused r
+Finds L o (Ok None) buffer = o ≡ absent
+Finds L o (Ok (Some (size, count))) buffer = (p : Path) × (o ≡ value p) × Stands L p size count buffer
+
+-- What was made, where a path or a refusal is all that there can be.
+abbrev pub made_as : Result (ℕ × ℕ) Refusal → Found
+made_as (Err r) = Err r
+made_as (Ok path) = Ok (Some path)
 
 -- What a call that writes a path has answered and written.
 pub record Wrote (o : Outcome Path) (c : Counted) (before behind : List ℕ) : Type 0 where
@@ -57,23 +58,15 @@ Sound L (value p) = Accepted L × Valid L p
 
 -- The answer of such a call, as what it found: the count is read from the path that it wrote.
 abbrev pub found_as : Counted → List ℕ → Found
-found_as (counted.Refused r) buffer = found.Refused r
-found_as counted.Nothing buffer = found.Nothing
-found_as (counted.Count n) buffer = found.Path n (packed_count (take n buffer))
+found_as (counted.Refused r) buffer = Err r
+found_as counted.Nothing buffer = Ok None
+found_as (counted.Count n) buffer = Ok (Some (n, packed_count (take n buffer)))
 
 -- What reading it takes for granted: as many bytes as it says are a packed path.
 abbrev pub CountReadable : Counted → List ℕ → Type 0
 CountReadable (counted.Refused r) buffer = Unit {0}
 CountReadable counted.Nothing buffer = Unit {0}
 CountReadable (counted.Count n) buffer = (n ≤ length buffer) × Packed (take n buffer)
-
--- The buffers that a line is answered in: for the lengths and the bytes of its path, for the path packed, and for the answer.
-pub record Rooms (line lengths bytes packed next : List ℕ) : Type 0 where
-  pub line_within : length line ≤ max_line
-  pub lengths_room : max_sizes ≤ length lengths
-  pub bytes_room : max_bytes ≤ length bytes
-  pub packed_room : max_packed ≤ length packed
-  pub next_room : max_packed ≤ length next
 
 -- A path that was read is made by the rules of `from_slices`; what was not read gets 3.
 abbrev pub made_outcome : Limits → Option Path → Outcome Path

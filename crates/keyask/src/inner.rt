@@ -1,137 +1,98 @@
-// A key line's question, put to the calls that answer it. The buffers are lent by the caller, so that a program that answers
-// many lines clears none of them.
+// A key line's question, put to the calls that answer it. The room is lent by the caller, so that a program that answers many lines
+// clears none of it.
 
-ghost use Rattle.std.specs.Prelude.{◌≡◌};
+ghost use Rattle.std.specs.Prelude.{◌≡◌, ◌≤◌, IfOk, length};
 ghost use Rattle.willow.specs.declared.Limits as theory;
 ghost use Rattle.keyform.specs.Answering.{line_outcome};
 ghost use Rattle.keyform.specs.Reading.{read_path};
-ghost use Rattle.keyform.specs.Wording.{next_greater_of, successor_of};
-ghost use Rattle.keyask.specs.Found.{CountReadable, Finds, found_as, made_outcome, Rooms, text_outcome};
+ghost use Rattle.keyform.specs.Wording.{max_line};
+ghost use Rattle.keyask.specs.Found.{CountReadable, Finds, found_as, made_as, made_outcome, max_packed};
 
 use keyform::MAX_LINE;
-use keyread::inner::{Line, Slices};
+use keyread::inner::Question;
 use refusals::{MAX_MCC, MAX_MPL};
 use willow::{Counted, Limits, Refusal};
 
-// The room that every line's path needs: for the lengths of its components (`max_sizes`), for their bytes (`max_bytes`), and for a path
-// packed (`max_packed`).
+// The room that every line's path needs: for the lengths of its components and for their bytes, since of every two bytes of a line one
+// length and one byte can come at most, and for a path packed (`max_packed`).
 pub const MAX_SIZES: usize = 4 * MAX_LINE + 8;
 
 pub const MAX_BYTES: usize = MAX_LINE / 2;
 
 pub const MAX_PACKED: usize = 8 + 8 * MAX_MCC as usize + MAX_MPL as usize;
 
-// What a question comes to: refused, none, or a path that stands packed at the front of a buffer, with its size and its count.
-#[derive(Clone, Copy)]
-pub enum Found {
-    Refused(Refusal),
-    Nothing,
-    Path(usize, usize),
+// What a line is answered in: the lengths and the bytes of its path, its path packed, and the path that answers it.
+#[derive(Drop)]
+pub struct Room {
+    pub lengths: [u8; MAX_SIZES],
+    pub bytes: [u8; MAX_BYTES],
+    pub packed: [u8; MAX_PACKED],
+    pub next: [u8; MAX_PACKED],
 }
 
-// What a call has answered that writes a path to the front of a buffer.
-fn found_in(c: Counted, buffer: &[u8]) -> Found
+impl Room {
+    pub fn new() -> Room {
+        Room {
+            lengths: [0; MAX_SIZES],
+            bytes: [0; MAX_BYTES],
+            packed: [0; MAX_PACKED],
+            next: [0; MAX_PACKED],
+        }
+    }
+}
+
+// What a call has answered that writes a path to the front of a buffer: its size there, and its count.
+fn found_in(c: Counted, buffer: &[u8]) -> Result<Option<(usize, usize)>, Refusal>
     requires { CountReadable c buffer.now }
     ensures { result ≡ found_as c buffer.now }
 {
     match c {
-        Counted::Refused(r) => Found::Refused(r),
-        Counted::Nothing => Found::Nothing,
+        Counted::Refused(r) => Err(r),
+        Counted::Nothing => Ok(None),
         Counted::Count(n) => {
-            let size = n as usize;
-            Found::Path(size, packed::inner::component_count(&buffer[0..size]))
+            let path = &buffer[..n as usize];
+            Ok(Some((path.len(), packed::inner::component_count(path))))
         }
     }
 }
 
 // The path of a text, made by the rules of `from_slices`: 3 where it is no path.
-fn make_path(
-    limits: Limits,
-    text: &[u8],
-    lengths: &mut [u8],
-    bytes: &mut [u8],
-    packed: &mut [u8],
-) -> Found
-    requires { Rooms text.now lengths.old bytes.old packed.old packed.old }
-    ensures { Finds limits (made_outcome limits (read_path text.now)) result packed.new }
+fn make_path(limits: Limits, text: &[u8], room: &mut Room) -> Result<(usize, usize), Refusal>
+    requires { length text.now ≤ max_line }
+    ensures found { Finds limits (made_outcome limits (read_path text.now)) (made_as result) room.new.packed }
+    ensures inside { IfOk result (λ path. path.0 ≤ max_packed) }
 {
-    match keyread::inner::read_path(text, lengths, bytes) {
-        Slices::Bad => Found::Refused(Refusal::BadKind),
-        Slices::Read(k, n) => {
-            let end = 8 * k;
-            let made = construction::from_slices(limits, &lengths[0..end], &bytes[0..n], packed);
-            found_in(made, packed)
-        }
-    }
+    let read = keyread::inner::read_path(text, &mut room.lengths, &mut room.bytes);
+    let (k, n) = read.ok_or(Refusal::BadKind)?;
+    let made = construction::from_slices(
+        limits,
+        &room.lengths[..8 * k],
+        &room.bytes[..n],
+        &mut room.packed,
+    );
+    // It is refused or a path: there is no outcome without one.
+    let path = found_in(made, &room.packed)?;
+    Ok(path.unwrap())
 }
 
-// The least path above the path of a text.
-fn ask_successor(
-    limits: Limits,
-    text: &[u8],
-    lengths: &mut [u8],
-    bytes: &mut [u8],
-    packed: &mut [u8],
-    next: &mut [u8],
-) -> Found
-    requires { Rooms text.now lengths.old bytes.old packed.old next.old }
-    ensures { Finds limits (text_outcome limits successor_of text.now) result next.new }
+// A line's outcome, its path in `next`: the greatest path, or the least above the path of the line's text.
+pub fn ask(line: &[u8], room: &mut Room) -> Result<Option<(usize, usize)>, Refusal>
+    requires { length line.now ≤ max_line }
+    ensures { (L : theory.Limits) × Finds L (line_outcome line.now) result room.new.next }
 {
-    match make_path(limits, text, lengths, bytes, packed) {
-        Found::Refused(r) => Found::Refused(r),
-        Found::Nothing => Found::Nothing,
-        Found::Path(size, k) => {
-            let above = least::successor(limits, &packed[0..size], k as u64, next);
-            found_in(above, next)
+    let (limits, question) = keyread::inner::read_line(line).ok_or(Refusal::BadKind)?;
+    match question {
+        Question::Successor(text) => {
+            let (size, k) = make_path(limits, text, room)?;
+            let above = least::successor(limits, &room.packed[..size], k as u64, &mut room.next);
+            found_in(above, &room.next)
         }
-    }
-}
-
-// The least path above the path of a text that it does not prefix.
-fn ask_next_greater(
-    limits: Limits,
-    text: &[u8],
-    lengths: &mut [u8],
-    bytes: &mut [u8],
-    packed: &mut [u8],
-    next: &mut [u8],
-) -> Found
-    requires { Rooms text.now lengths.old bytes.old packed.old next.old }
-    ensures { Finds limits (text_outcome limits next_greater_of text.now) result next.new }
-{
-    match make_path(limits, text, lengths, bytes, packed) {
-        Found::Refused(r) => Found::Refused(r),
-        Found::Nothing => Found::Nothing,
-        Found::Path(size, k) => {
-            let above = least::greater_but_not_prefixed(limits, &packed[0..size], k as u64, next);
-            found_in(above, next)
+        Question::NextGreater(text) => {
+            let (size, k) = make_path(limits, text, room)?;
+            let path = &room.packed[..size];
+            let above = least::greater_but_not_prefixed(limits, path, k as u64, &mut room.next);
+            found_in(above, &room.next)
         }
-    }
-}
-
-// A line's outcome, its path in `next`.
-pub fn ask(
-    line: &[u8],
-    lengths: &mut [u8],
-    bytes: &mut [u8],
-    packed: &mut [u8],
-    next: &mut [u8],
-) -> Found
-    requires { Rooms line.now lengths.old bytes.old packed.old next.old }
-    ensures { (L : theory.Limits) × Finds L (line_outcome line.now) result next.new }
-{
-    let end = line.len();
-    match keyread::inner::read_line(line) {
-        Line::Bad => Found::Refused(Refusal::BadKind),
-        Line::Successor(limits, at) => {
-            ask_successor(limits, &line[at..end], lengths, bytes, packed, next)
-        }
-        Line::NextGreater(limits, at) => {
-            ask_next_greater(limits, &line[at..end], lengths, bytes, packed, next)
-        }
-        Line::Greatest(limits) => {
-            let most = greatest::new_max(limits, next);
-            found_in(most, next)
-        }
+        Question::Greatest => found_in(greatest::new_max(limits, &mut room.next), &room.next),
     }
 }

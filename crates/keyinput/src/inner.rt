@@ -1,174 +1,133 @@
 // An input of lines that comes in chunks: what has come of a line is held until its newline, and then answered. Nothing here is open
-// to a caller: the buffers must be long enough for every line, path and answer.
+// to a caller: the buffer for the answers must be long enough. That is asked of a buffer and a place in it, which goes on with each
+// answer: a struct of both would hold it no longer than a call.
 
-ghost use Rattle.std.specs.Prelude.{◌&&◌, false, [], ◌∷◌, ◌≡◌, ◌+◌, ◌≤◌, ltb, length};
+ghost use Rattle.std.specs.Prelude.{[], ◌∷◌, ◌≡◌, ◌+◌, ◌≤◌, length};
 ghost use Rattle.number.specs.Overwriting.{overwrite};
-ghost use Rattle.keyform.specs.Answering.{held_answer, longer, max_answer, printed_at_end};
-ghost use Rattle.keyinput.specs.Held.{Feeds, Fits, held_in, Scratch, Takes};
+ghost use Rattle.keyform.specs.Answering.{held_answer, kept, longer, max_answer, printed_at_end};
 
+use keyask::inner::Room;
 use keyform::{MAX_ANSWER, MAX_LINE};
+use std::marker::Model;
 use willow::Refusal;
 
-// What has come of a line: so many bytes at the front of the line buffer; `long` if more came than a line may have.
-#[derive(Clone, Copy)]
+// What has come of a line: so many bytes at the front of its buffer, or, where more came than a line may have, no more than that.
+#[derive(Drop)]
 pub struct Pending {
-    pub len: usize,
-    pub long: bool,
+    line: [u8; MAX_LINE],
+    len: Option<usize>,
 }
 
-// What feeding a chunk has done: the state behind the bytes that it took, how many these are, and how many bytes of answers it
-// wrote.
+impl Model for Pending {
+    ghost use Rattle.keyform.specs.Answering.{Held};
+
+    ghost Value = { Held };
+
+    ghost use Rattle.keyinput.specs.Held.{held_in, Within};
+
+    ghost view = { held_in };
+
+    ghost invariant = { Within };
+}
+
+// What feeding a chunk has done: how many bytes of it were taken, and how many bytes of answers were written.
 #[derive(Clone, Copy)]
 pub struct Fed {
-    pub pending: Pending,
     pub used: usize,
     pub written: usize,
 }
 
-// What one byte has done: the state behind it, and the place behind the answers.
-#[derive(Clone, Copy)]
-pub struct Step {
-    pub pending: Pending,
-    pub place: usize,
-}
+impl Pending {
+    ghost use Rattle.keyinput.specs.Held.{Feeds, Takes};
 
-// Nothing has come.
-pub fn start() -> Pending
-    ensures { (result.len ≡ 0) × (result.long ≡ false) }
-{
-    Pending {
-        len: 0,
-        long: false,
+    // Nothing has come.
+    pub fn new() -> Pending
+        ensures { result ≡ kept [] }
+    {
+        Pending {
+            line: [0; MAX_LINE],
+            len: Some(0),
+        }
     }
-}
 
-// The answer to the line that is held.
-fn end_line(
-    p: Pending,
-    line: &[u8],
-    lengths: &mut [u8],
-    bytes: &mut [u8],
-    packed: &mut [u8],
-    next: &mut [u8],
-    out: &mut [u8],
-    to: usize,
-) -> usize
-    requires { Fits p line.now × Scratch lengths.old bytes.old packed.old next.old × (to + max_answer + 1 ≤ length out.old) }
-    ensures value { result ≡ to + length (held_answer (held_in p line.now)) }
-    ensures out_after { out.new ≡ overwrite out.old to (held_answer (held_in p line.now)) }
-{
-    let n = p.len;
-    if p.long {
-        let at = keyshow::inner::put_refused(Refusal::BadKind, out, to);
-        out[at] = b'\n';
-        return at + 1;
+    // The next line begins.
+    fn clear(&mut self)
+        ensures { self.new ≡ kept [] }
+    {
+        self.len = Some(0);
     }
-    keyline::inner::answer_line(&line[0..n], lengths, bytes, packed, next, out, to)
-}
 
-// One byte more of a line.
-fn push(line: &mut [u8], p: Pending, b: u8) -> Pending
-    requires { Fits p line.old }
-    ensures { (held_in result line.new ≡ longer (held_in p line.old) b) × Fits result line.new }
-{
-    let n = p.len;
-    if n < MAX_LINE {
-        line[n] = b;
-        return Pending {
-            len: n + 1,
-            long: p.long,
+    // One byte more of a line.
+    fn push(&mut self, b: u8)
+        ensures { self.new ≡ longer self.old b }
+    {
+        match self.len {
+            Some(n) if n < MAX_LINE => {
+                self.line[n] = b;
+                self.len = Some(n + 1);
+            }
+            _ => self.len = None,
+        }
+    }
+
+    // The answer to the line that is held, written from a place on: the place behind it.
+    fn end_line(&self, room: &mut Room, out: &mut [u8], to: usize) -> usize
+        requires { to + max_answer + 1 ≤ length out.old }
+        ensures value { result ≡ to + length (held_answer self.now) }
+        ensures out_after { out.new ≡ overwrite out.old to (held_answer self.now) }
+    {
+        let Some(n) = self.len else {
+            let at = keyshow::inner::put_refused(Refusal::BadKind, out, to);
+            out[at] = b'\n';
+            return at + 1;
         };
+        keyline::inner::answer_line(&self.line[..n], room, out, to)
     }
-    Pending { len: n, long: true }
-}
 
-// One byte of the input: it ends the line that is held, or makes it longer.
-fn take_byte(
-    p: Pending,
-    line: &mut [u8],
-    b: u8,
-    lengths: &mut [u8],
-    bytes: &mut [u8],
-    packed: &mut [u8],
-    next: &mut [u8],
-    out: &mut [u8],
-    to: usize,
-) -> Step
-    requires { Fits p line.old × Scratch lengths.old bytes.old packed.old next.old × (to + max_answer + 1 ≤ length out.old) }
-    ensures { Takes (held_in p line.old) (b ∷ []) out.old to result line.new out.new }
-{
-    if b == b'\n' {
-        let at = end_line(p, line, lengths, bytes, packed, next, out, to);
-        return Step {
-            pending: start(),
-            place: at,
-        };
+    // One byte of the input: it ends the line that is held, or makes it longer. The place behind the answers.
+    fn take_byte(&mut self, b: u8, room: &mut Room, out: &mut [u8], to: usize) -> usize
+        requires { to + max_answer + 1 ≤ length out.old }
+        ensures { Takes self.old (b ∷ []) out.old to self.new result out.new }
+    {
+        if b == b'\n' {
+            let at = self.end_line(room, out, to);
+            self.clear();
+            return at;
+        }
+        self.push(b);
+        to
     }
-    Step {
-        pending: push(line, p, b),
-        place: to,
-    }
-}
 
-// Whether a chunk goes on, and another answer has room.
-fn goes_on(i: usize, n: usize, room: usize) -> bool
-    ensures { result ≡ (ltb i n && ltb max_answer room) }
-{
-    if i < n {
-        return MAX_ANSWER < room;
+    // A chunk of the input, as far as there is room for the answers.
+    pub fn feed(&mut self, chunk: &[u8], room: &mut Room, out: &mut [u8]) -> Fed
+        ensures { Feeds self.old chunk.now out.old result self.new out.new }
+    {
+        let mut at = 0;
+        for (i, b) in chunk.iter().enumerate() {
+            if out.len() - at <= MAX_ANSWER {
+                return Fed {
+                    used: i,
+                    written: at,
+                };
+            }
+            at = self.take_byte(*b, room, out, at);
+        }
+        Fed {
+            used: chunk.len(),
+            written: at,
+        }
     }
-    false
-}
 
-// A chunk of the input, as far as there is room for the answers.
-pub fn feed(
-    p: Pending,
-    line: &mut [u8],
-    chunk: &[u8],
-    lengths: &mut [u8],
-    bytes: &mut [u8],
-    packed: &mut [u8],
-    next: &mut [u8],
-    out: &mut [u8],
-) -> Fed
-    requires { Fits p line.old × Scratch lengths.old bytes.old packed.old next.old }
-    ensures { Feeds (held_in p line.old) chunk.now out.old result line.new out.new }
-{
-    let mut s = p;
-    let mut i: usize = 0;
-    let mut at: usize = 0;
-    while goes_on(i, chunk.len(), out.len() - at) {
-        let t = take_byte(s, line, chunk[i], lengths, bytes, packed, next, out, at);
-        s = t.pending;
-        at = t.place;
-        i += 1;
+    // The answer that the input's end adds: that of a line which no newline has ended.
+    pub fn finish(&self, room: &mut Room, out: &mut [u8]) -> usize
+        requires { max_answer + 1 ≤ length out.old }
+        ensures inside { result ≤ length out.old }
+        ensures value { result ≡ length (printed_at_end self.now) }
+        ensures out_after { out.new ≡ overwrite out.old 0 (printed_at_end self.now) }
+    {
+        match self.len {
+            Some(0) => 0,
+            _ => self.end_line(room, out, 0),
+        }
     }
-    Fed {
-        pending: s,
-        used: i,
-        written: at,
-    }
-}
-
-// The answer that the input's end adds: that of a line which no newline has ended.
-pub fn finish(
-    p: Pending,
-    line: &[u8],
-    lengths: &mut [u8],
-    bytes: &mut [u8],
-    packed: &mut [u8],
-    next: &mut [u8],
-    out: &mut [u8],
-) -> usize
-    requires { Fits p line.now × Scratch lengths.old bytes.old packed.old next.old × (max_answer + 1 ≤ length out.old) }
-    ensures value { result ≡ length (printed_at_end (held_in p line.now)) }
-    ensures out_after { out.new ≡ overwrite out.old 0 (printed_at_end (held_in p line.now)) }
-{
-    if p.long {
-        return end_line(p, line, lengths, bytes, packed, next, out, 0);
-    }
-    if p.len == 0 {
-        return 0;
-    }
-    end_line(p, line, lengths, bytes, packed, next, out, 0)
 }

@@ -1,23 +1,21 @@
 -- What was found of a line is shown as its answer, which has room; the newline is written behind it.
 use Prim.Native.Nat.{ℕ, ◌+◌, ◌-◌, ◌≤◌, ◌<◌}
 use mathlib.Core.List.{List, [], ◌∷◌, ◌++◌, append_assoc}
-use mathlib.Core.Path.{◌≡◌, refl, sym, ◌∙◌, ap, subst}
+use mathlib.Core.Path.{◌≡◌, refl, sym, ◌∙◌, ap}
 use native.Mathlib.Omega.{arith}
 use lib.ListN.{length, take, drop, set, length-append}
 use lib.Seq.{take_at}
 use borrow.Author.Tests.{lt-leb, le-leb}
-use Rattle.packed.specs.Readable.{Readable}
 use Rattle.willow.specs.declared.Limits.{Limits}
 use Rattle.willow.specs.declared.Refusal.{Refusal}
-use Rattle.willow.specs.declared.Refusal.TheVariants.{BadKind, OutTooSmall}
-use Rattle.willow.specs.Answers.{path_in, written_length, written_buffer}
+use Rattle.willow.specs.declared.Refusal.TheVariants.{BadKind}
+use Rattle.willow.specs.Answers.{written_buffer}
 use Rattle.willow.specs.Paths.{Path}
-use Rattle.willow.specs.Refusals.{Outcome, refused, value}
+use Rattle.willow.specs.Refusals.{Outcome, value}
 use Rattle.number.specs.Overwriting.{overwrite}
 use Rattle.number.proofs.OverwritingLaws.{length_overwrite, overwrite_at_front, front_written, store_overwrite, written_on}
-use Rattle.keyask.specs.declared.inner.Found.{Found}
-use Rattle.keyask.specs.declared.inner.Found.TheVariants as found
-use Rattle.keyask.specs.Found.{Finds}
+use Rattle.keyask.specs.Found.{Found, Finds}
+use Rattle.std.specs.Prelude.{None, Some, Ok, Err}
 use Rattle.keyask.proofs.FoundLaws.{stands_readable}
 use Rattle.keyform.specs.Answering.{max_answer, refused_text, outcome_text, line_outcome, answer_text, ended_answer}
 use Rattle.keyform.specs.Texts.{newline, path_text}
@@ -25,34 +23,11 @@ use Rattle.keyform.specs.Wording.{max_line}
 use Rattle.keyform.proofs.AnsweringLaws.{answer_bound, refused_length}
 use Rattle.keyline.specs.Shown.{found_text, FoundReadable}
 
--- BY CASES of what was found
-pub room_as : (f g : Found) (next : List ℕ) (to room : ℕ) → f ≡ g → FoundReadable f next × (to + length (found_text f next) ≤ room)
-    → FoundReadable g next × (to + length (found_text g next) ≤ room)
-room_as f g next to room e h = subst (λ x. FoundReadable x next × (to + length (found_text x next) ≤ room)) e h
-
-pub place_as : (f g : Found) (next : List ℕ) (to at : ℕ) → f ≡ g → at ≡ to + length (found_text g next) → at ≡ to + length (found_text f next)
-place_as f g next to at e h = h ∙ ap (λ x. to + length (found_text x next)) (sym e)
-
-pub text_as : (f g : Found) (next old new : List ℕ) (to : ℕ) → f ≡ g → new ≡ overwrite old to (found_text g next) → new ≡ overwrite old to (found_text f next)
-text_as f g next old new to e h = h ∙ ap (λ x. overwrite old to (found_text x next)) (sym e)
-
--- the whole of a part that begins at the front
-pub front_whole : (buffer : List ℕ) (size : ℕ) → take (size - 0) buffer ≡ take size buffer
-front_whole buffer size = let z : size - 0 ≡ size = omega arith in ap (λ n. take n buffer) z
-
-pub part_room : (next : List ℕ) (size k to room : ℕ)
-    → FoundReadable (found.Path size k) next × (to + length (found_text (found.Path size k) next) ≤ room)
-    → Readable (take (size - 0) next) k × (to + length (path_text (path_in (take (size - 0) next) k)) ≤ room)
-part_room next size k to room h = let z = front_whole next size in (rw z h.0.1, rw z h.1)
-
-pub part_text : (next : List ℕ) (size k : ℕ) → path_text (path_in (take (size - 0) next) k) ≡ found_text (found.Path size k) next
-part_text next size k = ap (λ b. path_text (path_in b k)) (front_whole next size)
-
 -- WHAT WAS FOUND, shown
 pub found_shown : (L : Limits) (o : Outcome Path) (f : Found) (next : List ℕ) → Finds L o f next → FoundReadable f next × (found_text f next ≡ outcome_text o)
-found_shown L o (found.Refused r) next h = (tt, ap outcome_text (sym h))
-found_shown L o found.Nothing next h = (tt, ap outcome_text (sym h))
-found_shown L o (found.Path size k) next (p, e, st) =
+found_shown L o (Err r) next h = (tt, ap outcome_text (sym h))
+found_shown L o (Ok None) next h = (tt, ap outcome_text (sym h))
+found_shown L o (Ok (Some (size, k))) next (p, e, st) =
     let r = stands_readable L p size k next st in
     ((st.inside, r.0), ap path_text r.1 ∙ ap outcome_text (sym e))
 
@@ -69,12 +44,6 @@ line_shown line f next (L, h) =
 
 pub answer_room : (t : List ℕ) (to room : ℕ) → length t ≤ max_answer → to + max_answer + 1 ≤ room → to + length t ≤ room
 answer_room t to room h k = omega arith
-
-pub answer_shown : (line : List ℕ) (f : Found) (next out new : List ℕ) (to at : ℕ) → Shows line f next
-    → at ≡ to + length (found_text f next) → new ≡ overwrite out to (found_text f next)
-    → (at ≡ to + length (answer_text line)) × (new ≡ overwrite out to (answer_text line))
-answer_shown line f next out new to at s e w =
-    (e ∙ ap (λ x. to + length x) s.shows, w ∙ ap (overwrite out to) s.shows)
 
 -- THE NEWLINE behind an answer
 module _ (text out shown : List ℕ) (to at : ℕ) (place : at ≡ to + length text) (written : shown ≡ overwrite out to text)
@@ -93,6 +62,33 @@ module _ (text out shown : List ℕ) (to at : ℕ) (place : at ≡ to + length t
 pub ended_is : (line : List ℕ) → answer_text line ++ (newline ∷ []) ≡ ended_answer line
 unfolding ended_answer
 ended_is line = refl
+
+-- .. and behind that of a line
+pub found_room : (line : List ℕ) (f : Found) (next : List ℕ) (to room : ℕ) → ((L : Limits) × Finds L (line_outcome line) f next)
+    → to + max_answer + 1 ≤ room → FoundReadable f next × (to + length (found_text f next) ≤ room)
+found_room line f next to room h k =
+    let s = line_shown line f next h in
+    let b = s.bound in
+    (s.can_read, omega arith)
+
+pub record Ended (line out : List ℕ) (to : ℕ) (shown : List ℕ) (at : ℕ) : Type 0 where
+  pub room : at < length shown
+  pub place : at + 1 ≡ to + length (ended_answer line)
+  pub written : set shown at newline ≡ overwrite out to (ended_answer line)
+
+pub line_ended : (line : List ℕ) (f : Found) (next out : List ℕ) (to : ℕ) (shown : List ℕ) (at : ℕ) → ((L : Limits) × Finds L (line_outcome line) f next)
+    → at ≡ to + length (found_text f next) → shown ≡ overwrite out to (found_text f next) → to + max_answer + 1 ≤ length out → Ended line out to shown at
+line_ended line f next out to shown at h e w k =
+    let s = line_shown line f next h in
+    let t = answer_text line in
+    let place : at ≡ to + length t = e ∙ ap (λ x. to + length x) s.shows in
+    let written : shown ≡ overwrite out to t = w ∙ ap (overwrite out to) s.shows in
+    let b = answer_bound line in
+    record {
+      room = newline_room t out shown to at place written b k;
+      place = newline_place t out shown to at place written b k ∙ ap (λ x. to + length x) (ended_is line);
+      written = newline_written t out shown to at place written b k ∙ ap (overwrite out to) (ended_is line);
+    }
 
 -- A LINE OF ANY LENGTH: one that is too long gets 3, of another the answer stands before the newline.
 pub long_answer : (line : List ℕ) → max_line < length line → refused_text BadKind ≡ answer_text line
@@ -124,15 +120,8 @@ answer_front line out n new room e w =
           ∙ take_at (answer_text line) (newline ∷ drop (length (ended_answer line)) out) (n - 1) z,
     )
 
--- an answer copied out of a buffer, if it fits
-pub copied : (text out part : List ℕ) (n : ℕ) → part ≡ text → n ≡ length text → n ≤ length out
-    → (value n ≡ written_length (value text) out) × (overwrite out 0 part ≡ written_buffer (value text) out)
+-- an answer copied out of a buffer that it fits
+pub copied : (text out part : List ℕ) (n : ℕ) → part ≡ text → n ≡ length text → n ≤ length out → overwrite out 0 part ≡ written_buffer (value text) out
 copied text out part n e l h =
     let z : length text ≤ length out = omega arith in
-    (rw (le-leb (length text) (length out) z) (ap value l), rw (le-leb (length text) (length out) z, e) (overwrite_at_front out text))
-
-pub not_copied : (text out : List ℕ) (n : ℕ) → n ≡ length text → length out < n
-    → (refused OutTooSmall ≡ written_length (value text) out) × (out ≡ written_buffer (value text) out)
-not_copied text out n l h =
-    let z : length out < length text = omega arith in
-    (rw (lt-leb (length text) (length out) z), rw (lt-leb (length text) (length out) z))
+    rw (le-leb (length text) (length out) z, e) (overwrite_at_front out text)

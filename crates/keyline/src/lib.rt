@@ -21,6 +21,6 @@ pub fn answer(line: &[u8], out: &mut [u8]) -> Counted
     if out.len() < n {
         return Counted::Refused(Refusal::OutTooSmall);
     }
-    number::put(out, 0, &held[0..n]);
+    number::put(out, 0, &held[..n]);
     Counted::Count(n as u64)
 }

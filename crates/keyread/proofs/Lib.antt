@@ -1,4 +1,3 @@
 pub mod DigitLaws
 pub mod HexLaws
 pub mod PieceLaws
-pub mod QuestionLaws

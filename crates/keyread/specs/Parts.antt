@@ -1,41 +1,32 @@
 -- What the functions that read a key line answer, in the words of crate `keyform`.
-use Rattle.std.specs.Prelude.{ℕ, ◌*◌, ◌≤◌, ◌<◌, Bool, true, false, cond, List, [], map, ◌≡◌, leb, length, drop}
+use denote.Ref.{Bor}
+use Rattle.std.specs.Prelude.{ℕ, ◌*◌, ◌≤◌, ◌<◌, List, map, ◌≡◌, None, Some, length}
+use Rattle.std.specs.Prelude as code
 use Rattle.std.proofs.Math.Option.{Option, none, some}
 use Rattle.number.specs.Overwriting.{overwrite}
 use Rattle.keyform.specs.Reading.{Field, read_hex, read_component, read_path, Read, asks, with_question}
-use Rattle.keyform.specs.Splitting.{pieces}
-use Rattle.keyform.specs.Texts.{slash}
-use Rattle.keyform.specs.Wording.{successor_of, next_greater_of, greatest_path}
+use Rattle.keyform.specs.Wording.{Question, successor_of, next_greater_of, greatest_path}
 use Rattle.willow.specs.Construction.{length_buffer}
+use Rattle.willow.specs.declared.Limits.{Limits}
 use Rattle.willow.specs.Packed.{joined}
 use Rattle.willow.specs.Paths.{Component, Path, path_length}
-use Rattle.keyread.specs.declared.inner.Field as code-field
-use Rattle.keyread.specs.declared.inner.Field.TheVariants as field
-use Rattle.keyread.specs.declared.inner.Line as code-line
-use Rattle.keyread.specs.declared.inner.Line.TheVariants as line
-use Rattle.keyread.specs.declared.inner.Slices.{Slices}
-use Rattle.keyread.specs.declared.inner.Slices.TheVariants as slices
-use Rattle.keyread.specs.declared.inner.Piece.{Piece}
-use Rattle.keyread.specs.declared.inner.Piece.TheVariants as piece
+use Rattle.keyread.specs.declared.inner.Question as asked
+use Rattle.keyread.specs.declared.inner.Question.TheVariants.{Successor, NextGreater, Greatest}
 
--- A field: its number, and the line from the place on.
-abbrev pub field_read : List ℕ → code-field.Field → Option Field
-field_read s field.Bad = none
-field_read s (field.Read v next) = some (record { number = v; rest = drop next s })
+-- A field: its number, and the line behind it.
+abbrev pub field_read : code.Option (ℕ × Bor (List ℕ)) → Option Field
+field_read None = none
+field_read (Some (v, rest)) = some (record { number = v; rest = rest.now })
 
 -- Hexadecimal digits: what they are is written; where they are none, what is written is of no use.
-abbrev pub HexRead : List ℕ → List ℕ → ℕ → Bool → List ℕ → Type 0
-HexRead s before to false behind = (read_hex s ≡ none) × (length behind ≡ length before)
-HexRead s before to true behind = (v : List ℕ) × (read_hex s ≡ some v) × (behind ≡ overwrite before to v)
-
--- The pieces from a place on; past the text there is none.
-unfoldable pub pieces_at : List ℕ → ℕ → List (List ℕ)
-pieces_at s at = cond (leb at (length s)) (pieces slash (drop at s)) []
+abbrev pub HexRead : List ℕ → List ℕ → ℕ → code.Option ℕ → List ℕ → Type 0
+HexRead s before to None behind = (read_hex s ≡ none) × (length behind ≡ length before)
+HexRead s before to (Some n) behind = (v : List ℕ) × (read_hex s ≡ some v) × (behind ≡ overwrite before to v) × (n ≡ length v)
 
 -- A component: its bytes are written, two digits a byte or none for a dash.
-abbrev pub ComponentRead : List ℕ → List ℕ → ℕ → Piece → List ℕ → Type 0
-ComponentRead s before to piece.Bad behind = (read_component s ≡ none) × (length behind ≡ length before)
-ComponentRead s before to (piece.Read n) behind =
+abbrev pub ComponentRead : List ℕ → List ℕ → ℕ → code.Option ℕ → List ℕ → Type 0
+ComponentRead s before to None behind = (read_component s ≡ none) × (length behind ≡ length before)
+ComponentRead s before to (Some n) behind =
     (v : Component) × (read_component s ≡ some v) × (behind ≡ overwrite before to v) × (n ≡ length v) × (2 * n ≤ length s) × (0 < length s)
 
 -- The lengths of components, as 8-byte numbers.
@@ -43,9 +34,9 @@ abbrev pub sizes : Path → List ℕ
 sizes p = length_buffer (map length p)
 
 -- A path: its components' lengths and its bytes are written to the front.
-abbrev pub PathRead : Option Path → List ℕ → List ℕ → Slices → List ℕ → List ℕ → Type 0
-PathRead o lengths bytes slices.Bad lengths' bytes' = (o ≡ none) × (length lengths' ≡ length lengths) × (length bytes' ≡ length bytes)
-PathRead o lengths bytes (slices.Read k n) lengths' bytes' =
+abbrev pub PathRead : Option Path → List ℕ → List ℕ → code.Option (ℕ × ℕ) → List ℕ → List ℕ → Type 0
+PathRead o lengths bytes None lengths' bytes' = (o ≡ none) × (length lengths' ≡ length lengths) × (length bytes' ≡ length bytes)
+PathRead o lengths bytes (Some (k, n)) lengths' bytes' =
     (p : Path)
     × (o ≡ some p)
     × (lengths' ≡ overwrite lengths 0 (sizes p))
@@ -55,16 +46,23 @@ PathRead o lengths bytes (slices.Read k n) lengths' bytes' =
     × (8 * k ≤ length lengths)
     × (n ≤ length bytes)
 
--- A line: its limits, and a question whose path is still to be read from a place of the line on.
-abbrev pub line_read : List ℕ → code-line.Line → Option Read
-line_read s line.Bad = none
-line_read s (line.Successor L at) = with_question L.mcl L.mcc L.mpl (asks successor_of (read_path (drop at s)))
-line_read s (line.NextGreater L at) = with_question L.mcl L.mcc L.mpl (asks next_greater_of (read_path (drop at s)))
-line_read s (line.Greatest L) = with_question L.mcl L.mcc L.mpl (some greatest_path)
+-- A question whose path is still to be read.
+abbrev pub asked_read : asked.Question → Option Question
+asked_read (Successor text) = asks successor_of (read_path text.now)
+asked_read (NextGreater text) = asks next_greater_of (read_path text.now)
+asked_read Greatest = some greatest_path
 
--- The place lies in the line.
-abbrev pub place_within : List ℕ → code-line.Line → Type 0
-place_within s line.Bad = Unit {0}
-place_within s (line.Successor L at) = at ≤ length s
-place_within s (line.NextGreater L at) = at ≤ length s
-place_within s (line.Greatest L) = Unit {0}
+abbrev pub question_read : code.Option asked.Question → Option Question
+question_read None = none
+question_read (Some q) = asked_read q
+
+-- A line: its limits, and such a question.
+abbrev pub line_read : code.Option (Limits × asked.Question) → Option Read
+line_read None = none
+line_read (Some (L, q)) = with_question L.mcl L.mcc L.mpl (asked_read q)
+
+-- The text of a question's path is no longer than so many bytes.
+abbrev pub path_within : ℕ → asked.Question → Type 0
+path_within n (Successor text) = length text.now ≤ n
+path_within n (NextGreater text) = length text.now ≤ n
+path_within n Greatest = Unit {0}

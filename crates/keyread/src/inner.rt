@@ -1,270 +1,137 @@
 // A key line, read from the front: three numerals, a letter, and for S and G a path. What is read of a path are its components'
 // lengths, as 8-byte numbers, and its bytes: what `from_slices` takes.
 
-ghost use Rattle.std.specs.Prelude.{true, ◌∷◌, ◌≡◌, ◌*◌, ◌+◌, ◌-◌, ◌<◌, ◌≤◌, drop, length, take};
-ghost use Rattle.keyform.specs.Reading.{hex_value, is_dash, is_digit, is_unit, read_components, read_field, read_line, read_path, read_question, with_question};
+ghost use Rattle.std.specs.Prelude.{◌≡◌, ◌*◌, ◌+◌, ◌<◌, ◌≤◌, IfSome, length, unwrap_or};
+ghost use Rattle.keyform.specs.Reading.{hex_value, is_dash, is_unit, read_components, read_field, read_line, read_path, read_question};
 ghost use Rattle.keyform.specs.Splitting.{pieces};
 ghost use Rattle.keyform.specs.Texts.{slash};
-ghost use Rattle.keyread.specs.Parts.{ComponentRead, field_read, HexRead, line_read, PathRead, pieces_at, place_within};
+ghost use Rattle.keyread.specs.Parts.{ComponentRead, field_read, HexRead, line_read, path_within, PathRead, question_read};
 
 use willow::Limits;
 
-// A numeral and the space behind it: its number, and the place behind the space.
+// A question, its path still as text.
 #[derive(Clone, Copy)]
-pub enum Field {
-    Bad,
-    Read(u64, usize),
+pub enum Question<'a> {
+    Successor(&'a [u8]),
+    NextGreater(&'a [u8]),
+    Greatest,
 }
 
-// A line up to its path, which stands from a place on.
-#[derive(Clone, Copy)]
-pub enum Line {
-    Bad,
-    Successor(Limits, usize),
-    NextGreater(Limits, usize),
-    Greatest(Limits),
-}
-
-// A path: how many components, and how many bytes.
-#[derive(Clone, Copy)]
-pub enum Slices {
-    Bad,
-    Read(usize, usize),
-}
-
-// A component: how many bytes.
-#[derive(Clone, Copy)]
-pub enum Piece {
-    Bad,
-    Read(usize),
-}
-
-// Whether a byte is a decimal digit.
-fn is_digit(b: u8) -> bool
-    ensures { result ≡ is_digit b }
+// The numeral of 1 to 10 digits at the front, and the space behind it: its number, and what stands behind the space.
+fn read_field(line: &[u8]) -> Option<(u64, &[u8])>
+    ensures value { field_read result ≡ read_field line.now }
+    ensures within { IfSome result (λ f. length f.1.now ≤ length line.now) }
 {
-    if b < b'0' {
-        return false;
-    }
-    b <= b'9'
-}
-
-// The value of a hexadecimal digit; 16 where it is none.
-fn hex_value(b: u8) -> u8
-    ensures { result ≡ hex_value b }
-{
-    if is_digit(b) {
-        return b - b'0';
-    }
-    if b < b'a' {
-        return 16;
-    }
-    if b'f' < b {
-        return 16;
-    }
-    b - 87
-}
-
-// The value of a decimal digit.
-fn digit_value(b: u8) -> u64
-    requires { is_digit b ≡ true }
-    ensures { (result ≡ b - 48) × (result < 10) }
-{
-    (b - b'0') as u64
-}
-
-// The numeral of 1 to 10 digits from a place on, and the space behind it.
-fn read_field(line: &[u8], at: usize) -> Field
-    ensures { field_read line.now result ≡ read_field (drop at line.now) }
-{
-    let mut i = at;
+    const MOST_DIGITS: usize = 10;
     let mut v: u64 = 0;
-    let mut left: u64 = 10;
-    while i < line.len() {
-        let b = line[i];
-        if b == b' ' {
-            if left < 10 {
-                return Field::Read(v, i + 1);
-            }
-            return Field::Bad;
-        }
-        if is_digit(b) {
-            if left == 0 {
-                return Field::Bad;
-            }
-            v = 10 * v + digit_value(b);
-            left -= 1;
-            i += 1;
-        } else {
-            return Field::Bad;
+    for (i, b) in line.iter().enumerate() {
+        match *b {
+            b' ' if 0 < i => return Some((v, &line[i + 1..])),
+            b'0'..=b'9' if i < MOST_DIGITS => v = 10 * v + u64::from(*b - b'0'),
+            _ => return None,
         }
     }
-    Field::Bad
+    None
 }
 
-// The byte of two hexadecimal digits.
-fn hex_byte(high: u8, low: u8) -> u8
-    requires { (high < 16) × (low < 16) }
-    ensures { result ≡ 16 * high + low }
+// The value of a hexadecimal digit, by hand: the library's `to_digit` reads upper-case digits too, which a key line may not have. Decimal
+// digits and letters go one way, since which of them comes cannot be foretold: as two arms of a `match` the program took an eighth longer.
+fn hex_value(b: u8) -> Option<u8>
+    ensures value { unwrap_or result 16 ≡ hex_value b }
+    ensures below { IfSome result (λ d. d < 16) }
 {
-    16 * high + low
+    let (first, count, value) = if b <= b'9' {
+        (b'0', 10, 0)
+    } else {
+        (b'a', 6, 10)
+    };
+    let d = b.wrapping_sub(first);
+    if d < count { Some(value + d) } else { None }
 }
 
-// Hexadecimal digits read into out from a place on.
-fn read_hex(s: &[u8], out: &mut [u8], to: usize) -> bool
+// Hexadecimal digits read into out from a place on: how many bytes.
+fn read_hex(s: &[u8], out: &mut [u8], to: usize) -> Option<usize>
     requires { 2 * to + length s.now ≤ 2 * length out.old }
     ensures { HexRead s.now out.old to result out.new }
 {
-    let mut i: usize = 0;
-    let mut at = to;
-    while i < s.len() {
-        if s.len() - i < 2 {
-            return false;
-        }
-        let high = hex_value(s[i]);
-        let low = hex_value(s[i + 1]);
-        if 15 < high {
-            return false;
-        }
-        if 15 < low {
-            return false;
-        }
-        out[at] = hex_byte(high, low);
-        at += 1;
-        i += 2;
+    let n = s.len() / 2;
+    if s.len() != 2 * n {
+        return None;
     }
-    true
+    for k in 0..n {
+        let high = hex_value(s[2 * k])?;
+        let low = hex_value(s[2 * k + 1])?;
+        out[to + k] = 16 * high + low;
+    }
+    Some(n)
 }
 
-// The place of the next slash from a place on, or the text's end.
-fn piece_end(text: &[u8], at: usize) -> usize
-    requires { at ≤ length text.now }
-    ensures { (at ≤ result) × (result ≤ length text.now) × (pieces_at text.now at ≡ take (result - at) (drop at text.now) ∷ pieces_at text.now (result + 1)) }
-{
-    let mut i = at;
-    while i < text.len() {
-        if text[i] == b'/' {
-            return i;
-        }
-        i += 1;
-    }
-    i
-}
-
-// Whether a text is the dash of an empty component.
-fn is_dash(s: &[u8]) -> bool
-    ensures { result ≡ is_dash s.now }
-{
-    if s.len() == 1 {
-        return s[0] == b'-';
-    }
-    false
-}
-
-// Whether a text is the one of the empty path.
-fn is_unit(s: &[u8]) -> bool
-    ensures { result ≡ is_unit s.now }
-{
-    if s.len() == 2 {
-        if s[0] == b'(' {
-            return s[1] == b')';
-        }
-    }
-    false
-}
-
-// A component read into bytes from a place on.
-fn read_component(s: &[u8], bytes: &mut [u8], to: usize) -> Piece
+// A component read into bytes from a place on: how many bytes.
+#[tactic(auto, unfolding(keyform::specs::Reading::read_component))]
+fn read_component(s: &[u8], bytes: &mut [u8], to: usize) -> Option<usize>
     requires { 2 * to + length s.now ≤ 2 * length bytes.old }
     ensures { ComponentRead s.now bytes.old to result bytes.new }
 {
-    if s.len() == 0 {
-        return Piece::Bad;
+    if s.is_empty() {
+        return None;
     }
-    if is_dash(s) {
-        return Piece::Read(0);
+    if s == b"-".as_slice() {
+        return Some(0);
     }
-    if read_hex(s, bytes, to) {
-        return Piece::Read(s.len() / 2);
-    }
-    Piece::Bad
+    read_hex(s, bytes, to)
 }
 
-// Components split by slashes, read into lengths and bytes.
-fn read_components(text: &[u8], lengths: &mut [u8], bytes: &mut [u8]) -> Slices
+// Components split by slashes, read into lengths and bytes: how many components, and how many bytes. Both are counted by hand: they are
+// the answer, and what an `enumerate` counts is gone with its loop.
+fn read_components(text: &[u8], lengths: &mut [u8], bytes: &mut [u8]) -> Option<(usize, usize)>
     requires { (4 * length text.now + 8 ≤ length lengths.old) × (length text.now ≤ 2 * length bytes.old) }
     ensures { PathRead (read_components (pieces slash text.now)) lengths.old bytes.old result lengths.new bytes.new }
 {
-    let mut at: usize = 0;
     let mut k: usize = 0;
     let mut n: usize = 0;
-    while at <= text.len() {
-        let end = piece_end(text, at);
-        match read_component(&text[at..end], bytes, n) {
-            Piece::Bad => return Slices::Bad,
-            Piece::Read(m) => {
-                number::write_u64(lengths, 8 * k, m as u64);
-                n += m;
-            }
-        }
+    for piece in text.split(|b| *b == b'/') {
+        let m = read_component(piece, bytes, n)?;
+        number::write_u64(lengths, 8 * k, m as u64);
+        n += m;
         k += 1;
-        at = end + 1;
     }
-    Slices::Read(k, n)
+    Some((k, n))
 }
 
-// A path read into lengths and bytes.
-pub fn read_path(text: &[u8], lengths: &mut [u8], bytes: &mut [u8]) -> Slices
+// A path read into lengths and bytes: how many components, and how many bytes.
+#[tactic(auto, unfolding(keyform::specs::Reading::read_path))]
+pub fn read_path(text: &[u8], lengths: &mut [u8], bytes: &mut [u8]) -> Option<(usize, usize)>
     requires { (4 * length text.now + 8 ≤ length lengths.old) × (length text.now ≤ 2 * length bytes.old) }
     ensures { PathRead (read_path text.now) lengths.old bytes.old result lengths.new bytes.new }
 {
-    if is_unit(text) {
-        return Slices::Read(0, 0);
+    match text {
+        [b'(', b')'] => Some((0, 0)),
+        _ => read_components(text, lengths, bytes),
     }
-    read_components(text, lengths, bytes)
 }
 
-// The question from a place on: S or G, a space and a path, or M alone.
-fn read_question(line: &[u8], at: usize, limits: Limits) -> Line
-    ensures { (line_read line.now result ≡ with_question limits.mcl limits.mcc limits.mpl (read_question (drop at line.now))) × place_within line.now result }
+// The question that a text is: S or G, a space and a path, or M alone.
+fn read_question(text: &[u8]) -> Option<Question<'_>>
+    ensures value { question_read result ≡ read_question text.now }
+    ensures within { IfSome result (path_within (length text.now)) }
 {
-    if line.len() <= at {
-        return Line::Bad;
+    match text {
+        [b'S', b' ', path @ ..] => Some(Question::Successor(path)),
+        [b'G', b' ', path @ ..] => Some(Question::NextGreater(path)),
+        [b'M'] => Some(Question::Greatest),
+        _ => None,
     }
-    let letter = line[at];
-    let left = line.len() - at;
-    if letter == b'M' {
-        if left == 1 {
-            return Line::Greatest(limits);
-        }
-        return Line::Bad;
-    }
-    if left == 1 {
-        return Line::Bad;
-    }
-    if line[at + 1] == b' ' {
-        if letter == b'S' {
-            return Line::Successor(limits, at + 2);
-        }
-        if letter == b'G' {
-            return Line::NextGreater(limits, at + 2);
-        }
-    }
-    Line::Bad
 }
 
 // A line: its limits, and its question up to the path.
-pub fn read_line(line: &[u8]) -> Line
-    ensures { (line_read line.now result ≡ read_line line.now) × place_within line.now result }
+#[tactic(auto, unfolding(keyform::specs::Reading::read_line))]
+pub fn read_line(line: &[u8]) -> Option<(Limits, Question<'_>)>
+    ensures value { line_read result ≡ read_line line.now }
+    ensures within { IfSome result (λ r. path_within (length line.now) r.1) }
 {
-    let Field::Read(mcl, behind_mcl) = read_field(line, 0) else {
-        return Line::Bad;
-    };
-    let Field::Read(mcc, behind_mcc) = read_field(line, behind_mcl) else {
-        return Line::Bad;
-    };
-    let Field::Read(mpl, behind_mpl) = read_field(line, behind_mcc) else {
-        return Line::Bad;
-    };
-    read_question(line, behind_mpl, Limits { mcl, mcc, mpl })
+    let (mcl, line) = read_field(line)?;
+    let (mcc, line) = read_field(line)?;
+    let (mpl, line) = read_field(line)?;
+    let question = read_question(line)?;
+    Some((Limits { mcl, mcc, mpl }, question))
 }

@@ -12,7 +12,8 @@ ghost use Rattle.keyform.specs.Texts.{component_text, hex_digit, hex_text, path_
 use packed::inner;
 use willow::Refusal;
 
-// The byte of a hexadecimal digit: 0 to 9, then a to f.
+// The byte of a hexadecimal digit: 0 to 9, then a to f. The library's `from_digit` gives a character that there may not be, and this is
+// no longer than the way from there to the byte.
 fn hex_digit(d: u8) -> u8
     requires { d < 16 }
     ensures { result ≡ hex_digit d }
@@ -21,21 +22,18 @@ fn hex_digit(d: u8) -> u8
 }
 
 // The bytes of c, two digits each, the high one first.
+#[tactic(auto, using(keyform::proofs::PathTextLaws::hex_text_length))]
 fn put_hex(c: &[u8], out: &mut [u8], to: usize) -> usize
     requires { to + length (hex_text c.now) ≤ length out.old }
     ensures value { result ≡ to + length (hex_text c.now) }
     ensures out_after { out.new ≡ overwrite out.old to (hex_text c.now) }
 {
-    let mut at = to;
-    let mut i: usize = 0;
-    while i < c.len() {
-        let x = c[i];
-        out[at] = hex_digit(x / 16);
-        out[at + 1] = hex_digit(x % 16);
-        at += 2;
-        i += 1;
+    for (i, x) in c.iter().enumerate() {
+        let at = to + 2 * i;
+        out[at] = hex_digit(*x / 16);
+        out[at + 1] = hex_digit(*x % 16);
     }
-    at
+    to + 2 * c.len()
 }
 
 // Component i of a packed path: its bytes, or a dash for an empty one.
@@ -45,7 +43,7 @@ fn put_component(b: &[u8], i: usize, out: &mut [u8], to: usize) -> usize
     ensures out_after { out.new ≡ overwrite out.old to (component_text (get_or (unpack b.now) i [])) }
 {
     let c = inner::component(b, i);
-    if c.len() == 0 {
+    if c.is_empty() {
         out[to] = b'-';
         return to + 1;
     }
@@ -64,11 +62,9 @@ pub fn put_path(b: &[u8], k: usize, out: &mut [u8], to: usize) -> usize
         return to + 2;
     }
     let mut at = put_component(b, 0, out, to);
-    let mut i: usize = 1;
-    while i < k {
+    for i in 1..k {
         out[at] = b'/';
         at = put_component(b, i, out, at + 1);
-        i += 1;
     }
     at
 }
@@ -83,7 +79,8 @@ pub fn put_none(out: &mut [u8], to: usize) -> usize
     to + 4
 }
 
-// `refused` and the refusal's number, in one digit or two.
+// `refused` and the refusal's number, in one digit or two. The library prints a number to a `fmt::Write`, and there is none over lent
+// memory that cannot fail.
 pub fn put_refused(r: Refusal, out: &mut [u8], to: usize) -> usize
     requires { to + length (refused_text r) ≤ length out.old }
     ensures value { result ≡ to + length (refused_text r) }

@@ -2,24 +2,16 @@
 use Rattle.willow.specs.declared.Refusal.TheVariants.{BadKind}
 use Rattle.keyform.specs.Answering.{refused_text}
 use Rattle.keyline.proofs.AnswerLaws.{answer_room, refused_bound, refused_front, answer_front}
-use Rattle.keyline.proofs.inner.answer_any.Reads as reads
-use Rattle.keyline.proofs.inner.answer_any.Lts as lts
-use Rattle.keyline.proofs.inner.answer_line.Reads as answer-line-reads
-use Rattle.keyshow.proofs.inner.put_refused.Reads as put-refused-reads
 use Rattle.keyline.proofs.inner.answer_any.Goals as goal
 
--- src/inner.rt:91:9
 pub put_refused-requires : goal.put_refused-requires
 put_refused-requires c = answer_room (refused_text BadKind) 0 _ (refused_bound BadKind) c.requires
 
--- src/inner.rt:91:9
 pub returns-then-line-gt-MAX_LINE : goal.returns-then-line-gt-MAX_LINE
 returns-then-line-gt-MAX_LINE c = refused_front c.args.line.now c.args.out.now _ _ c.if-line-gt-MAX_LINE.true c.requires c.put_refused.ensures.value c.put_refused.ensures.out_after
 
--- src/inner.rt:97:5
 pub overflow_sub-result : goal.overflow_sub-result
 overflow_sub-result c = (answer_front c.args.line.now c.args.out.now _ _ c.requires c.answer_line.ensures.value c.answer_line.ensures.out_after).0
 
--- src/inner.rt:86:1
 pub returns : goal.returns
 returns c = let a = answer_front c.args.line.now c.args.out.now _ _ c.requires c.answer_line.ensures.value c.answer_line.ensures.out_after in (a.1, a.2, a.3)

@@ -1,13 +1,8 @@
--- (), or the components.
-use mathlib.Core.List.{[]}
-use mathlib.Core.Path.{refl, sym, ◌∙◌}
-use native.Mathlib.Omega.{arith}
+-- The empty path; of another text the check finds the definition's way.
+use Rattle.std.proofs.Common.{[], refl, sym, arith}
 use Rattle.number.proofs.OverwritingLaws.{overwrite_nil}
-use Rattle.keyread.proofs.PieceLaws.{path_unit, path_pieces}
+use Rattle.keyread.proofs.PieceLaws.{path_unit}
 use Rattle.keyread.proofs.inner.read_path.Goals as goal
 
-pub returns-then-is_unit : goal.returns-then-is_unit
-returns-then-is_unit c = ([], path_unit _ (sym c.is_unit.ensures ∙ c.if-is_unit.true), sym (overwrite_nil _ 0), sym (overwrite_nil _ 0), refl, refl, omega arith, omega arith)
-
-pub returns : goal.returns
-returns c = rw (← (path_pieces c.args.text.now (sym c.is_unit.ensures ∙ c.if-is_unit.false))) c.read_components.ensures
+pub returns-in-40 : goal.returns-in-40
+returns-in-40 c = ([], path_unit c.args.text.now (omega arith) (omega arith) (omega arith), sym (overwrite_nil _ 0), sym (overwrite_nil _ 0), refl, refl, omega arith, omega arith)

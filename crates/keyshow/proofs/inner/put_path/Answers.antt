@@ -1,4 +1,4 @@
-use Prim.Native.Nat.{suc, ◌+◌, ◌-◌}
+use Prim.Native.Nat.{suc, ◌+◌}
 use mathlib.Core.Path.{◌≡◌, refl, ◌∙◌, ap}
 use mathlib.Core.List.{[]}
 use native.Mathlib.Omega.{arith}
@@ -27,20 +27,8 @@ next_room : (c : In-loop-i)
     length (rest i) ≡ suc (length (component_text (get_or (unpack a.b.now) i [])) + length (rest (i + 1))))
 next_room c = next_length c.args.b.now c.args.k c.requires.0 c.loop-i.i c.loop-i-test.true
 
-pub bounds-out-to : goal.bounds-out-to
-bounds-out-to c = omega (arith, empty_room (goal.at.bounds-out-to c).Then-k-eq0)
-
-pub overflow_add-out : goal.overflow_add-out
-overflow_add-out c = omega (arith, empty_room (goal.at.overflow_add-out c).Then-k-eq0)
-
 pub bounds-out-to-then-k-eq0 : goal.bounds-out-to-then-k-eq0
 bounds-out-to-then-k-eq0 c = let l = empty_room (goal.at.bounds-out-to-then-k-eq0 c).Then-k-eq0 in simp length-set (omega arith)
-
-pub overflow_add-result : goal.overflow_add-result
-overflow_add-result c = omega (arith, empty_room (goal.at.overflow_add-result c).Then-k-eq0)
-
-pub shape_of-out-then-k-eq0 : goal.shape_of-out-then-k-eq0
-shape_of-out-then-k-eq0 c = simp length-set
 
 pub returns-then-k-eq0 : goal.returns-then-k-eq0
 returns-then-k-eq0 c =
@@ -63,9 +51,6 @@ loop-i-init c =
 pub bounds-out-at : goal.bounds-out-at
 bounds-out-at c = omega (arith, next_room (goal.at.bounds-out-at c).In-loop-i)
 
-pub overflow_add-at : goal.overflow_add-at
-overflow_add-at c = omega (arith, next_room (goal.at.overflow_add-at c).In-loop-i)
-
 pub put_component-at-requires-in-loop-i : goal.put_component-at-requires-in-loop-i
 put_component-at-requires-in-loop-i c =
     let l = next_room (goal.at.put_component-at-requires-in-loop-i c).In-loop-i in
@@ -78,9 +63,6 @@ loop-i-preserved c =
     let m = length-set c.loop-i.out c.loop-i.at slash in
     let written = next_written c.args.b.now c.args.k c.requires.0 c.loop-i.i c.loop-i-test.true c.loop-i.out _ c.loop-i.at _ c.put_component-at-in-loop-i.ensures.value (omega arith) c.put_component-at-in-loop-i.ensures.out_after in
     (omega arith, omega arith, omega arith, written ∙ c.loop-i.invariant.3)
-
-pub shape_of-out : goal.shape_of-out
-shape_of-out c = let k = c.put_component-at.auto in omega arith
 
 pub returns : goal.returns
 returns c =

@@ -1,6 +1,6 @@
 -- With no component the text is `()`. Else, behind the first component, what is left to write from here gives all that stands
 -- behind it; a turn writes a slash and the next component.
-use Prim.Native.Nat.{◌+◌, ◌-◌, ◌≤◌}
+use Prim.Native.Nat.{◌+◌, ◌≤◌}
 use mathlib.Core.Path.{◌≡◌}
 use lib.ListN.{length}
 use Rattle.willow.specs.Answers.{path_in}
@@ -14,6 +14,3 @@ invariant-loop-i l =
     × (l.initial.at + length (rest_text (path_in l.b l.k) 1) ≤ length l.out)
     × (length l.out ≡ length l.initial.out)
     × (overwrite l.out l.at (rest_text (path_in l.b l.k) l.i) ≡ overwrite l.initial.out l.initial.at (rest_text (path_in l.b l.k) 1))
-
-abbrev pub decreases-loop-i : goal.decreases-loop-i
-decreases-loop-i l = l.k - l.i

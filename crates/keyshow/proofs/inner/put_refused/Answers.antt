@@ -1,11 +1,8 @@
 -- The digits of the number are written behind the word: together the refusal's text.
 use native.Mathlib.Omega.{arith}
 use lib.ListN.{length-set}
-use Rattle.keyshow.proofs.ShowLaws.{one_length, one_written, two_length, two_written, number_below}
+use Rattle.keyshow.proofs.ShowLaws.{one_length, one_written, two_length, two_written}
 use Rattle.keyshow.proofs.inner.put_refused.Goals as goal
-
-pub overflow_cast-n : goal.overflow_cast-n
-overflow_cast-n c = omega (arith, number_below c.args.r)
 
 pub bounds-out-at : goal.bounds-out-at
 bounds-out-at c =
@@ -19,9 +16,6 @@ returns-then-n-lt10 c =
     let l = one_length a.r _ c.refusal_number-n.ensures c.if-n-lt10.true in
     let k = c.put.auto in
     record { value = omega arith; out_after = one_written a.r _ c.refusal_number-n.ensures c.if-n-lt10.true a.out.now c.put.new.s a.to (omega arith) (omega arith) c.put.ensures }
-
-pub overflow_add-out-2 : goal.overflow_add-out-2
-overflow_add-out-2 c = omega (arith, number_below c.args.r)
 
 pub bounds-out-at-2 : goal.bounds-out-at-2
 bounds-out-at-2 c =
