@@ -3,7 +3,7 @@
 // An area is the kind of its subspaces (0 any, 1 one id), an id, the packed path as a buffer with a count beside it, and the start,
 // the kind of the end (0 open, 1 closed) and the end of its times. A number beside kind 0 is not read. A slice is a pointer and then
 // a length; limits are three numbers MCL, MCC, MPL. Every call refuses 1, then 3, then 5.
-#![tactic(auto)]
+#![tactic(auto, unfolding(kinds::specs::Kinds::on_kinds))]
 
 ghost use Rattle.std.specs.Prelude.{◌≡◌};
 ghost use Rattle.willow.specs.Answers.{on_paths};
@@ -15,12 +15,11 @@ ghost use Rattle.kinds.specs.Kinds.{both, on_kinds};
 ghost use Rattle.area.specs.LentAreas.{triplet_at};
 ghost use Rattle.area_kinds.specs.AreaKinds.{area_from, area_with};
 
-use area_kinds::{AreaRead, AreasRead};
 use area_questions::{
     almost_includes_area, compare, could_be_pruned_by_triplet, includes_area, includes_triplet,
 };
-use convention::{Answer, asked, compared};
-use willow::{Asked, Compared, Limits};
+use convention::{Answer, answered, refused};
+use willow::Limits;
 
 // Whether an area includes an entry of this subspace, path and timestamp.
 pub fn wotskrale_area_includes_triplet(
@@ -43,10 +42,10 @@ pub fn wotskrale_area_includes_triplet(
 {
     let limits = Limits { mcl, mcc, mpl };
     match area_kinds::read_area(limits, kind, id, count, start, end_kind, end) {
-        AreaRead::Refused(r) => asked(Asked::Refused(r)),
-        AreaRead::Is(a) => {
+        Err(r) => refused(r),
+        Ok(a) => {
             let r = includes_triplet(limits, a, base, subspace, path, path_count, timestamp);
-            asked(r)
+            answered(r)
         }
     }
 }
@@ -72,12 +71,12 @@ pub fn wotskrale_area_could_be_pruned_by_triplet(
 {
     let limits = Limits { mcl, mcc, mpl };
     match area_kinds::read_area(limits, kind, id, count, start, end_kind, end) {
-        AreaRead::Refused(r) => asked(Asked::Refused(r)),
-        AreaRead::Is(a) => {
+        Err(r) => refused(r),
+        Ok(a) => {
             let r = could_be_pruned_by_triplet(
                 limits, a, base, subspace, path, path_count, timestamp,
             );
-            asked(r)
+            answered(r)
         }
     }
 }
@@ -108,8 +107,8 @@ pub fn wotskrale_area_includes_area(
     match area_kinds::read_areas(
         limits, kind, id, count, start, end_kind, end, kind2, id2, count2, start2, end_kind2, end2,
     ) {
-        AreasRead::Refused(r) => asked(Asked::Refused(r)),
-        AreasRead::Are(a, b) => asked(includes_area(limits, a, base, b, base2)),
+        Err(r) => refused(r),
+        Ok((a, b)) => answered(includes_area(limits, a, base, b, base2)),
     }
 }
 
@@ -139,8 +138,8 @@ pub fn wotskrale_area_almost_includes_area(
     match area_kinds::read_areas(
         limits, kind, id, count, start, end_kind, end, kind2, id2, count2, start2, end_kind2, end2,
     ) {
-        AreasRead::Refused(r) => asked(Asked::Refused(r)),
-        AreasRead::Are(a, b) => asked(almost_includes_area(limits, a, base, b, base2)),
+        Err(r) => refused(r),
+        Ok((a, b)) => answered(almost_includes_area(limits, a, base, b, base2)),
     }
 }
 
@@ -170,7 +169,7 @@ pub fn wotskrale_area_compare(
     match area_kinds::read_areas(
         limits, kind, id, count, start, end_kind, end, kind2, id2, count2, start2, end_kind2, end2,
     ) {
-        AreasRead::Refused(r) => compared(Compared::Refused(r)),
-        AreasRead::Are(a, b) => compared(compare(limits, a, base, b, base2)),
+        Err(r) => refused(r),
+        Ok((a, b)) => answered(compare(limits, a, base, b, base2)),
     }
 }

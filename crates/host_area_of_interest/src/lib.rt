@@ -4,10 +4,10 @@
 // with a count beside it, and the start, the kind of the end and the end of its times), and behind it a count and a size. A number
 // beside kind 0 is not read. A slice is a pointer and then a length; limits are three numbers MCL, MCC, MPL. Every call refuses 1,
 // then 3, then 5.
-#![tactic(auto)]
+#![tactic(auto, unfolding(kinds::specs::Kinds::on_kinds))]
 
 ghost use Rattle.std.specs.Prelude.{◌≡◌};
-ghost use Rattle.willow.specs.Answers.{on_paths};
+ghost use Rattle.willow.specs.Answers.{on_paths, optional_outcome_by};
 ghost use Rattle.willow.specs.AreasOfInterest.{compare_interest};
 ghost use Rattle.willow.specs.Orders.{order_number};
 ghost use Rattle.willow.specs.Ranges.{end_of};
@@ -15,18 +15,17 @@ ghost use Rattle.willow.specs.Refusals.{value};
 ghost use Rattle.convention.specs.Exports.{given, limits_of};
 ghost use Rattle.kinds.specs.Kinds.{both, on_kinds};
 ghost use Rattle.area_kinds.specs.AreaKinds.{area_from};
-ghost use Rattle.area_of_interest.specs.Interests.{met_outcome, standing_interest};
+ghost use Rattle.area_of_interest.specs.Interests.{standing_interest, standing_of};
 ghost use Rattle.host_area_of_interest.specs.InterestExports.{given_interest, interest_with, no_interest, parts_answer};
 
-use area_kinds::AreasRead;
 use area_of_interest::{AreaOfInterest, InterestMet};
-use convention::{Answer, compared};
-use willow::{Compared, Limits};
+use convention::{Answer, answered, refused};
+use willow::{Limits, Refusal};
 
 // An intersection as an answer: 0, a refusal's number or 255 for none; whose path stands (0 the first's, 1 the second's), its
 // count, the other parts of the area, and the count and the size; zeros unless there is one, and 0 beside kind 0.
 #[repr(C)]
-#[derive(Clone, Copy)]
+#[derive(Clone, Copy, Default)]
 pub struct InterestAnswer {
     pub status: u64,
     pub whose: u64,
@@ -44,19 +43,15 @@ pub struct InterestAnswer {
 fn given_interest(whose: u64, m: AreaOfInterest) -> InterestAnswer
     ensures { result ≡ parts_answer whose m.area.count m.area.subspace (end_of m.area.times.end) m.area.times.start m.max_count m.max_size }
 {
-    let area = m.area;
-    let subspace = area.subspace;
-    let times = area.times;
-    let end = times.end;
     InterestAnswer {
         status: 0,
         whose,
-        count: area.count,
-        subspace_kind: kinds::subspace_kind(subspace),
-        subspace: kinds::subspace_value(subspace),
-        start: times.start,
-        end_kind: kinds::end_kind(end),
-        end: kinds::end_value(end),
+        count: m.area.count,
+        subspace_kind: kinds::subspace_kind(m.area.subspace),
+        subspace: kinds::subspace_value(m.area.subspace),
+        start: m.area.times.start,
+        end_kind: kinds::end_kind(m.area.times.end),
+        end: kinds::end_value(m.area.times.end),
         max_count: m.max_count,
         max_size: m.max_size,
     }
@@ -68,27 +63,21 @@ fn no_interest(status: u64) -> InterestAnswer
 {
     InterestAnswer {
         status,
-        whose: 0,
-        count: 0,
-        subspace_kind: 0,
-        subspace: 0,
-        start: 0,
-        end_kind: 0,
-        end: 0,
-        max_count: 0,
-        max_size: 0,
+        ..InterestAnswer::default()
     }
 }
 
-// An area of interest that there may not be.
-fn met(m: InterestMet) -> InterestAnswer
-    ensures { result ≡ given_interest (met_outcome m) }
-{
-    match m {
-        InterestMet::Refused(r) => no_interest(refusals::refusal_number(r)),
-        InterestMet::Nothing => no_interest(255),
-        InterestMet::First(a) => given_interest(0, a),
-        InterestMet::Second(a) => given_interest(1, a),
+// What there may not be.
+impl From<Result<Option<InterestMet>, Refusal>> for InterestAnswer {
+    ghost from_gives = { λ m a. a ≡ given_interest (optional_outcome_by standing_of m) };
+
+    fn from(met: Result<Option<InterestMet>, Refusal>) -> InterestAnswer {
+        match met {
+            Err(r) => no_interest(refusals::refusal_number(r)),
+            Ok(None) => no_interest(255),
+            Ok(Some(InterestMet::First(a))) => given_interest(0, a),
+            Ok(Some(InterestMet::Second(a))) => given_interest(1, a),
+        }
     }
 }
 
@@ -122,11 +111,11 @@ pub fn wotskrale_area_of_interest_intersection(
     match area_kinds::read_areas(
         limits, kind, id, count, start, end_kind, end, kind2, id2, count2, start2, end_kind2, end2,
     ) {
-        AreasRead::Refused(r) => met(InterestMet::Refused(r)),
-        AreasRead::Are(a, b) => {
-            let i = area_of_interest::new(a, max_count, max_size);
-            let j = area_of_interest::new(b, max_count2, max_size2);
-            met(area_of_interest::intersection(limits, i, base, j, base2))
+        Err(r) => InterestAnswer::from(Err(r)),
+        Ok((a, b)) => {
+            let i = AreaOfInterest::new(a, max_count, max_size);
+            let j = AreaOfInterest::new(b, max_count2, max_size2);
+            InterestAnswer::from(area_of_interest::intersection(limits, i, base, j, base2))
         }
     }
 }
@@ -161,11 +150,11 @@ pub fn wotskrale_area_of_interest_compare(
     match area_kinds::read_areas(
         limits, kind, id, count, start, end_kind, end, kind2, id2, count2, start2, end_kind2, end2,
     ) {
-        AreasRead::Refused(r) => compared(Compared::Refused(r)),
-        AreasRead::Are(a, b) => {
-            let i = area_of_interest::new(a, max_count, max_size);
-            let j = area_of_interest::new(b, max_count2, max_size2);
-            compared(area_of_interest::compare(limits, i, base, j, base2))
+        Err(r) => refused(r),
+        Ok((a, b)) => {
+            let i = AreaOfInterest::new(a, max_count, max_size);
+            let j = AreaOfInterest::new(b, max_count2, max_size2);
+            answered(area_of_interest::compare(limits, i, base, j, base2))
         }
     }
 }

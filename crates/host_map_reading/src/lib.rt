@@ -10,9 +10,10 @@ ghost use Rattle.area_kinds.specs.AreaKinds.{parts};
 ghost use Rattle.map_reading.specs.Rules.{count_outcome, rule_outcome, rule_path, rule_read};
 ghost use Rattle.host_map_reading.specs.MapExports.{given_rule, no_rule, rule_answer};
 
-use area::Area;
-use convention::{Answer, counted};
-use map_reading::RuleRead;
+use convention::{Answer, answered, answered_if_any};
+use kinds::{end_kind, end_value, subspace_kind, subspace_value};
+use map_rules::Rule;
+use willow::Refusal;
 
 // A rule as an answer: 0, a refusal's number or 255 for none; its area but for the path, of which it has the count; its value. Zeros
 // unless there is one, and 0 beside kind 0.
@@ -30,21 +31,19 @@ pub struct RuleAnswer {
 }
 
 // A rule that there is.
-fn given_rule(area: Area, value: u64) -> RuleAnswer
-    ensures { result ≡ rule_answer (parts area) value }
+fn given_rule(rule: Rule) -> RuleAnswer
+    ensures { result ≡ rule_answer (parts rule.area) rule.value }
 {
-    let subspace = area.subspace;
-    let times = area.times;
-    let end = times.end;
+    let area = rule.area;
     RuleAnswer {
         status: 0,
-        subspace_kind: kinds::subspace_kind(subspace),
-        subspace: kinds::subspace_value(subspace),
+        subspace_kind: subspace_kind(area.subspace),
+        subspace: subspace_value(area.subspace),
         count: area.count,
-        start: times.start,
-        end_kind: kinds::end_kind(end),
-        end: kinds::end_value(end),
-        value,
+        start: area.times.start,
+        end_kind: end_kind(area.times.end),
+        end: end_value(area.times.end),
+        value: rule.value,
     }
 }
 
@@ -65,13 +64,13 @@ fn no_rule(status: u64) -> RuleAnswer
 }
 
 // A rule that there may not be.
-fn rule_read(r: RuleRead) -> RuleAnswer
+fn rule_read(r: Result<Option<Rule>, Refusal>) -> RuleAnswer
     ensures { result ≡ given_rule (rule_outcome r) }
 {
     match r {
-        RuleRead::Refused(why) => no_rule(refusals::refusal_number(why)),
-        RuleRead::Nothing => no_rule(255),
-        RuleRead::Is(area, value) => given_rule(area, value),
+        Err(why) => no_rule(refusals::refusal_number(why)),
+        Ok(None) => no_rule(255),
+        Ok(Some(rule)) => given_rule(rule),
     }
 }
 
@@ -79,7 +78,7 @@ fn rule_read(r: RuleRead) -> RuleAnswer
 pub fn wotskrale_map_count(sheet: &[u8]) -> Answer
     ensures { result ≡ given itself (count_outcome sheet.now) }
 {
-    counted(map_reading::rule_count(sheet))
+    answered(map_reading::rule_count(sheet))
 }
 
 // Rule i but for its path; none past the last. Refuses 2.
@@ -94,5 +93,5 @@ pub fn wotskrale_map_rule_path(sheet: &[u8], i: u64, out: &mut [u8]) -> Answer
     ensures value { result ≡ given itself (written_length (rule_path sheet.now i) out.old) }
     ensures out_after { out.new ≡ written_buffer (rule_path sheet.now i) out.old }
 {
-    counted(map_reading::write_rule_path(sheet, i, out))
+    answered_if_any(map_reading::write_rule_path(sheet, i, out))
 }

@@ -3,7 +3,7 @@
 // A 3d range is a start, the kind of the end (0 open, 1 closed) and an end, of its subspaces, of its paths and of its times. Those of
 // the paths are packed paths, each a buffer with a count beside it. What stands beside kind 0 is not read. A slice is a pointer and
 // then a length; limits are three numbers MCL, MCC, MPL. Every call refuses 1, then 3, then 5.
-#![tactic(auto)]
+#![tactic(auto, unfolding(kinds::specs::Kinds::on_kinds))]
 
 ghost use Rattle.std.specs.Prelude.{[], ◌∷◌, ◌++◌, ◌≡◌};
 ghost use Rattle.willow.specs.Answers.{path_in};
@@ -17,10 +17,9 @@ ghost use Rattle.path_bounds.specs.LentPaths.{on_lent};
 ghost use Rattle.path_bounds.specs.LentRanges.{range_paths};
 ghost use Rattle.range_3d_kinds.specs.Range3dKinds.{parts3d_from, range3d_with};
 
-use convention::{Answer, asked, compared};
-use range_3d_kinds::{Range3dRead, Ranges3dRead};
+use convention::{Answer, answered, refused};
 use range_3d_questions::{compare, could_be_pruned_by_triplet, includes_range, includes_triplet};
-use willow::{Asked, Compared, Limits};
+use willow::Limits;
 
 // Whether a 3d range includes an entry of this subspace, path and timestamp.
 pub fn wotskrale_range_3d_includes_triplet(
@@ -58,11 +57,8 @@ pub fn wotskrale_range_3d_includes_triplet(
         time_end_kind,
         time_end,
     ) {
-        Range3dRead::Refused(r) => asked(Asked::Refused(r)),
-        Range3dRead::Is(a) => {
-            let r = includes_triplet(limits, a, s, e, subspace, path, count, timestamp);
-            asked(r)
-        }
+        Err(r) => refused(r),
+        Ok(a) => answered(includes_triplet(limits, a, s, e, subspace, path, count, timestamp)),
     }
 }
 
@@ -102,11 +98,10 @@ pub fn wotskrale_range_3d_could_be_pruned_by_triplet(
         time_end_kind,
         time_end,
     ) {
-        Range3dRead::Refused(r) => asked(Asked::Refused(r)),
-        Range3dRead::Is(a) => {
-            let r = could_be_pruned_by_triplet(limits, a, s, e, subspace, path, count, timestamp);
-            asked(r)
-        }
+        Err(r) => refused(r),
+        Ok(a) => answered(could_be_pruned_by_triplet(
+            limits, a, s, e, subspace, path, count, timestamp,
+        )),
     }
 }
 
@@ -162,8 +157,8 @@ pub fn wotskrale_range_3d_includes_range(
         time_end_kind2,
         time_end2,
     ) {
-        Ranges3dRead::Refused(r) => asked(Asked::Refused(r)),
-        Ranges3dRead::Are(a, b) => asked(includes_range(limits, a, s, e, b, s2, e2)),
+        Err(r) => refused(r),
+        Ok((a, b)) => answered(includes_range(limits, a, s, e, b, s2, e2)),
     }
 }
 
@@ -219,7 +214,7 @@ pub fn wotskrale_range_3d_compare(
         time_end_kind2,
         time_end2,
     ) {
-        Ranges3dRead::Refused(r) => compared(Compared::Refused(r)),
-        Ranges3dRead::Are(a, b) => compared(compare(limits, a, s, e, b, s2, e2)),
+        Err(r) => refused(r),
+        Ok((a, b)) => answered(compare(limits, a, s, e, b, s2, e2)),
     }
 }

@@ -1,20 +1,20 @@
 // The intersection of two 3d ranges (`range_3d_intersection`) for a host in another language. 3d ranges are passed as in
 // `host_range_3d`; the call refuses 1, then 3, then 5.
-#![tactic(auto)]
+#![tactic(auto, unfolding(kinds::specs::Kinds::on_kinds))]
 
 ghost use Rattle.std.specs.Prelude.{◌++◌, ◌≡◌};
+ghost use Rattle.willow.specs.Answers.{optional_outcome_by};
 ghost use Rattle.convention.specs.Exports.{limits_of};
-ghost use Rattle.range.specs.NumberRanges.{range_of};
 ghost use Rattle.kinds.specs.Kinds.{both, on_kinds};
 ghost use Rattle.path_bounds.specs.LentPaths.{on_lent};
 ghost use Rattle.path_bounds.specs.LentRanges.{range_paths};
-ghost use Rattle.range_3d_intersection.specs.Sides3d.{met_outcome, sides_met3d};
+ghost use Rattle.range_3d_intersection.specs.Sides3d.{sides_met3d, standing3d_of};
 ghost use Rattle.range_3d_kinds.specs.Range3dKinds.{parts3d_from, range3d_with};
-ghost use Rattle.host_range_3d_intersection.specs.SidesExports.{given_sides, no_sides, sides_answer};
+ghost use Rattle.host_range_3d_intersection.specs.SidesExports.{given_sides, no_sides};
 
-use range_3d_intersection::{Range3dMet, Sides3d};
-use range_3d_kinds::Ranges3dRead;
-use willow::Limits;
+use path_range_intersection::Side;
+use range_3d::Range3d;
+use willow::{Limits, Refusal};
 
 // An intersection as an answer: 0, a refusal's number or 255 for none; its ranges of numbers; whose start its range of paths has (0
 // the first's, 1 the second's), the kind of its end, and whose end it has. Zeros unless there is one, and 0 beside kind 0.
@@ -31,30 +31,6 @@ pub struct Range3dAnswer {
     pub time_start: u64,
     pub time_end_kind: u64,
     pub time_end: u64,
-}
-
-// An intersection that there is.
-fn given_sides(m: Sides3d) -> Range3dAnswer
-    ensures { result ≡ sides_answer (record { subspaces = range_of m.subspaces; start = m.start; end = m.end; times = range_of m.times }) }
-{
-    let subspaces = m.subspaces;
-    let subspace_end = subspaces.end;
-    let start = m.start;
-    let end = m.end;
-    let times = m.times;
-    let time_end = times.end;
-    Range3dAnswer {
-        status: 0,
-        subspace_start: subspaces.start,
-        subspace_end_kind: kinds::end_kind(subspace_end),
-        subspace_end: kinds::end_value(subspace_end),
-        path_start: side_kinds::side_number(start),
-        path_end_kind: side_kinds::end_side_kind(end),
-        path_end: side_kinds::end_side_number(end),
-        time_start: times.start,
-        time_end_kind: kinds::end_kind(time_end),
-        time_end: kinds::end_value(time_end),
-    }
 }
 
 // No intersection: why.
@@ -76,13 +52,24 @@ fn no_sides(status: u64) -> Range3dAnswer
 }
 
 // An intersection that there may not be.
-fn met(m: Range3dMet) -> Range3dAnswer
-    ensures { result ≡ given_sides (met_outcome m) }
+fn met(m: Result<Option<Range3d<Side>>, Refusal>) -> Range3dAnswer
+    ensures { result ≡ given_sides (optional_outcome_by standing3d_of m) }
 {
     match m {
-        Range3dMet::Refused(r) => no_sides(refusals::refusal_number(r)),
-        Range3dMet::Nothing => no_sides(255),
-        Range3dMet::Are(x) => given_sides(x),
+        Err(r) => no_sides(refusals::refusal_number(r)),
+        Ok(None) => no_sides(255),
+        Ok(Some(x)) => Range3dAnswer {
+            status: 0,
+            subspace_start: x.subspaces.start,
+            subspace_end_kind: kinds::end_kind(x.subspaces.end),
+            subspace_end: kinds::end_value(x.subspaces.end),
+            path_start: side_kinds::side_number(x.paths.start),
+            path_end_kind: side_kinds::end_side_kind(x.paths.end),
+            path_end: side_kinds::end_side_number(x.paths.end),
+            time_start: x.times.start,
+            time_end_kind: kinds::end_kind(x.times.end),
+            time_end: kinds::end_value(x.times.end),
+        },
     }
 }
 
@@ -138,9 +125,7 @@ pub fn wotskrale_range_3d_intersection(
         time_end_kind2,
         time_end2,
     ) {
-        Ranges3dRead::Refused(r) => met(Range3dMet::Refused(r)),
-        Ranges3dRead::Are(a, b) => met(range_3d_intersection::intersection(
-            limits, a, s, e, b, s2, e2,
-        )),
+        Err(r) => met(Err(r)),
+        Ok((a, b)) => met(range_3d_intersection::intersection(limits, a, s, e, b, s2, e2)),
     }
 }

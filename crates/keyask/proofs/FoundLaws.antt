@@ -10,11 +10,11 @@ use lib.Dec.{leb}
 use lib.ListN.{length, take, drop, length-append}
 use lib.Seq.{take_at, take_all}
 use borrow.Author.Tests.{le-leb}
-use Rattle.willow.specs.declared.Counted.{Counted}
-use Rattle.willow.specs.declared.Counted.TheVariants as counted
+use Rattle.std.specs.Prelude.{None, Some, Result, Ok, Err}
+use Rattle.std.specs.Prelude as code
 use Rattle.willow.specs.declared.Limits.{Limits}
 use Rattle.willow.specs.declared.Refusal.{Refusal}
-use Rattle.willow.specs.Answers.{counted_outcome, on_path, path_in, limits_refusal, unless}
+use Rattle.willow.specs.Answers.{outcome, optional_outcome, on_path, path_in, limits_refusal, unless}
 use Rattle.willow.specs.Construction.{admitted, Slices}
 use Rattle.willow.specs.LeastPaths.{next_greater, successor, greatest, Least, GreaterPath, GreaterNotPrefixed}
 use Rattle.willow.specs.Limits.{Accepted, max_word}
@@ -33,7 +33,7 @@ use Rattle.greatest.specs.Greatest.{greatest_outcome}
 use Rattle.least_writing.specs.Written.{path_or}
 use Rattle.least.specs.Places as least
 use Rattle.keyread.specs.Parts.{sizes}
-use Rattle.keyask.specs.Found.{max_packed, Stands, Finds, Wrote, Sound, found_as, CountReadable}
+use Rattle.keyask.specs.Found.{max_packed, Stands, Finds, Wrote, Sound, as_optional, found_as, CountReadable}
 
 -- A VALID PATH, packed
 pub record PackedPath (L : Limits) (p : Path) : Type 0 where
@@ -93,34 +93,39 @@ kind (refused r) = 0
 kind absent = 1
 kind (value n) = 2
 
-wrote_path : (L : Limits) (p : Path) (c : Counted) (before behind : List ℕ) → Accepted L → Valid L p → max_packed ≤ length before → Wrote (value p) c before behind
-    → (counted_outcome c ≡ value (length (pack p))) × (behind ≡ pack p ++ drop (length (pack p)) before)
+wrote_path : (L : Limits) (p : Path) (c : Result (code.Option ℕ) Refusal) (before behind : List ℕ) → Accepted L → Valid L p → max_packed ≤ length before → Wrote (value p) c before behind
+    → (optional_outcome c ≡ value (length (pack p))) × (behind ≡ pack p ++ drop (length (pack p)) before)
 wrote_path L p c before behind a v room w =
     let f = (packed_path L p a v).fits in
     let h : leb (length (pack p)) (length before) ≡ true = le-leb (length (pack p)) (length before) (omega arith) in
     (rw h at w.answered, rw h at w.written)
 
-pub wrote_found : (L : Limits) (o : Outcome Path) (c : Counted) (before behind : List ℕ) → Sound L o → max_packed ≤ length before → Wrote o c before behind
+pub wrote_found : (L : Limits) (o : Outcome Path) (c : Result (code.Option ℕ) Refusal) (before behind : List ℕ) → Sound L o → max_packed ≤ length before → Wrote o c before behind
     → CountReadable c behind × Finds L o (found_as c behind) behind
-wrote_found L (refused r) (counted.Refused q) before behind s room w = (tt, ap refused (sym (refusal_same q r w.answered)))
-wrote_found L (refused r) counted.Nothing before behind s room w = let z = ap kind w.answered in absurd (omega arith)
-wrote_found L (refused r) (counted.Count n) before behind s room w = let z = ap kind w.answered in absurd (omega arith)
-wrote_found L absent (counted.Refused q) before behind s room w = let z = ap kind w.answered in absurd (omega arith)
-wrote_found L absent counted.Nothing before behind s room w = (tt, refl)
-wrote_found L absent (counted.Count n) before behind s room w = let z = ap kind w.answered in absurd (omega arith)
-wrote_found L (value p) (counted.Refused q) before behind s room w =
-    let z = ap kind (wrote_path L p (counted.Refused q) before behind s.0 s.1 room w).0 in absurd (omega arith)
-wrote_found L (value p) counted.Nothing before behind s room w =
-    let z = ap kind (wrote_path L p counted.Nothing before behind s.0 s.1 room w).0 in absurd (omega arith)
-wrote_found L (value p) (counted.Count n) before behind s room w =
+wrote_found L (refused r) (Err q) before behind s room w = (tt, ap refused (sym (refusal_same q r w.answered)))
+wrote_found L (refused r) (Ok None) before behind s room w = let z = ap kind w.answered in absurd (omega arith)
+wrote_found L (refused r) (Ok (Some n)) before behind s room w = let z = ap kind w.answered in absurd (omega arith)
+wrote_found L absent (Err q) before behind s room w = let z = ap kind w.answered in absurd (omega arith)
+wrote_found L absent (Ok None) before behind s room w = (tt, refl)
+wrote_found L absent (Ok (Some n)) before behind s room w = let z = ap kind w.answered in absurd (omega arith)
+wrote_found L (value p) (Err q) before behind s room w =
+    let z = ap kind (wrote_path L p (Err q) before behind s.0 s.1 room w).0 in absurd (omega arith)
+wrote_found L (value p) (Ok None) before behind s room w =
+    let z = ap kind (wrote_path L p (Ok None) before behind s.0 s.1 room w).0 in absurd (omega arith)
+wrote_found L (value p) (Ok (Some n)) before behind s room w =
     let f = packed_path L p s.0 s.1 in
-    let h = wrote_path L p (counted.Count n) before behind s.0 s.1 room w in
+    let h = wrote_path L p (Ok (Some n)) before behind s.0 s.1 room w in
     let e : n ≡ length (pack p) = count_same n (length (pack p)) h.0 in
     let t : take n behind ≡ pack p = rw h.1 (take_at (pack p) (drop (length (pack p)) before) n (sym e)) in
     let l = ap length h.1 ∙ length-append (pack p) (drop (length (pack p)) before) in (
       (omega arith, rw t f.packed),
       (p, refl, record { accepted = s.0; valid = s.1; inside = omega arith; packed = t; counted = rw t f.count }),
     )
+
+-- .. by a call that never says none
+pub always_some : (c : Result ℕ Refusal) → optional_outcome (as_optional c) ≡ outcome c
+always_some (Err r) = refl
+always_some (Ok n) = refl
 
 -- WHAT THE OUTCOMES ARE SOUND FOR. Under limits that are not accepted there is only a refusal.
 under_sound : (L : Limits) (o : Outcome Path) → (Accepted L → Sound L o) → Sound L (under_limits L o)

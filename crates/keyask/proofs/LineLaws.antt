@@ -5,12 +5,12 @@ use mathlib.Core.Path.{◌≡◌, sym, ◌∙◌, ap}
 use lib.ListN.{length}
 use borrow.Author.Tests.{le-leb}
 use denote.Ref.{Bor}
-use Rattle.std.specs.Prelude.{None, Some}
+use Rattle.std.specs.Prelude.{None, Some, Result}
 use Rattle.std.specs.Prelude as code
-use Rattle.willow.specs.declared.Counted.{Counted}
+use Rattle.willow.specs.declared.Refusal.{Refusal}
 use Rattle.willow.specs.declared.Limits.{Limits}
 use Rattle.willow.specs.declared.Refusal.TheVariants.{BadKind}
-use Rattle.willow.specs.Answers.{counted_outcome, written_length, written_buffer, packed_outcome}
+use Rattle.willow.specs.Answers.{outcome, written_length, written_buffer, packed_outcome}
 use Rattle.willow.specs.Refusals.{refused}
 use Rattle.greatest.specs.Greatest.{greatest_outcome}
 use Rattle.keyform.specs.Answering.{line_outcome, read_outcome}
@@ -19,8 +19,8 @@ use Rattle.keyform.specs.Wording.{max_line, successor_of, next_greater_of}
 use Rattle.keyread.specs.declared.inner.Question as asked
 use Rattle.keyread.specs.declared.inner.Question.TheVariants.{Successor, NextGreater, Greatest}
 use Rattle.keyread.specs.Parts.{line_read}
-use Rattle.keyask.specs.Found.{max_packed, Finds, found_as, CountReadable, text_outcome}
-use Rattle.keyask.proofs.FoundLaws.{wrote_found, greatest_sound}
+use Rattle.keyask.specs.Found.{max_packed, Finds, as_optional, found_as, CountReadable, text_outcome}
+use Rattle.keyask.proofs.FoundLaws.{always_some, wrote_found, greatest_sound}
 
 module _ (s : List ℕ) (within : length s ≤ max_line) (r : code.Option (Limits × asked.Question)) (reads : line_read r ≡ read_line s) where
   line_is : (q : code.Option (Limits × asked.Question)) → r ≡ q → line_outcome s ≡ read_outcome (line_read q)
@@ -41,8 +41,8 @@ module _ (s : List ℕ) (within : length s ≤ max_line) (r : code.Option (Limit
     line_next_greater text e = line_is (Some (L, NextGreater text)) (line ∙ ap (λ x. Some (L, x)) e)
 
 -- the greatest path, as `new_max` wrote it
-pub greatest_found : (L : Limits) (c : Counted) (before behind : List ℕ) → max_packed ≤ length before
-    → counted_outcome c ≡ written_length (packed_outcome (greatest_outcome L)) before
+pub greatest_found : (L : Limits) (c : Result ℕ Refusal) (before behind : List ℕ) → max_packed ≤ length before
+    → outcome c ≡ written_length (packed_outcome (greatest_outcome L)) before
     → behind ≡ written_buffer (packed_outcome (greatest_outcome L)) before
-    → CountReadable c behind × Finds L (greatest_outcome L) (found_as c behind) behind
-greatest_found L c before behind room a w = wrote_found L (greatest_outcome L) c before behind (greatest_sound L) room (record { answered = a; written = w })
+    → CountReadable (as_optional c) behind × Finds L (greatest_outcome L) (found_as (as_optional c) behind) behind
+greatest_found L c before behind room a w = wrote_found L (greatest_outcome L) (as_optional c) before behind (greatest_sound L) room (record { answered = always_some c ∙ a; written = w })

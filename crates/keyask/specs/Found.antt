@@ -2,11 +2,9 @@
 use Rattle.std.specs.Prelude.{ℕ, ◌+◌, ◌*◌, ◌≤◌, List, ◌≡◌, None, Some, Result, Ok, Err, length, take}
 use Rattle.std.specs.Prelude as code
 use Rattle.std.proofs.Math.Option.{Option, none, some}
-use Rattle.willow.specs.declared.Counted.{Counted}
-use Rattle.willow.specs.declared.Counted.TheVariants as counted
 use Rattle.willow.specs.declared.Limits.{Limits}
 use Rattle.willow.specs.declared.Refusal.TheVariants.{BadKind}
-use Rattle.willow.specs.Answers.{counted_outcome, packed_outcome, written_buffer, written_length}
+use Rattle.willow.specs.Answers.{optional_outcome, packed_outcome, written_buffer, written_length}
 use Rattle.willow.specs.Construction.{admitted}
 use Rattle.willow.specs.Limits.{max_mcc, max_mpl, Accepted}
 use Rattle.willow.specs.Packed.{pack, Packed, packed_count}
@@ -46,9 +44,14 @@ made_as (Err r) = Err r
 made_as (Ok path) = Ok (Some path)
 
 -- What a call that writes a path has answered and written.
-pub record Wrote (o : Outcome Path) (c : Counted) (before behind : List ℕ) : Type 0 where
-  pub answered : counted_outcome c ≡ written_length (packed_outcome o) before
+pub record Wrote (o : Outcome Path) (c : Result (code.Option ℕ) Refusal) (before behind : List ℕ) : Type 0 where
+  pub answered : optional_outcome c ≡ written_length (packed_outcome o) before
   pub written : behind ≡ written_buffer (packed_outcome o) before
+
+-- The answer of such a call that never says none, as that of one that may.
+abbrev pub as_optional : Result ℕ Refusal → Result (code.Option ℕ) Refusal
+as_optional (Err r) = Err r
+as_optional (Ok n) = Ok (Some n)
 
 -- The path of an outcome, if it has one, is valid under limits that are accepted.
 abbrev pub Sound : Limits → Outcome Path → Type 0
@@ -57,16 +60,16 @@ Sound L absent = Unit {0}
 Sound L (value p) = Accepted L × Valid L p
 
 -- The answer of such a call, as what it found: the count is read from the path that it wrote.
-abbrev pub found_as : Counted → List ℕ → Found
-found_as (counted.Refused r) buffer = Err r
-found_as counted.Nothing buffer = Ok None
-found_as (counted.Count n) buffer = Ok (Some (n, packed_count (take n buffer)))
+abbrev pub found_as : Result (code.Option ℕ) Refusal → List ℕ → Found
+found_as (Err r) buffer = Err r
+found_as (Ok None) buffer = Ok None
+found_as (Ok (Some n)) buffer = Ok (Some (n, packed_count (take n buffer)))
 
 -- What reading it takes for granted: as many bytes as it says are a packed path.
-abbrev pub CountReadable : Counted → List ℕ → Type 0
-CountReadable (counted.Refused r) buffer = Unit {0}
-CountReadable counted.Nothing buffer = Unit {0}
-CountReadable (counted.Count n) buffer = (n ≤ length buffer) × Packed (take n buffer)
+abbrev pub CountReadable : Result (code.Option ℕ) Refusal → List ℕ → Type 0
+CountReadable (Err r) buffer = Unit {0}
+CountReadable (Ok None) buffer = Unit {0}
+CountReadable (Ok (Some n)) buffer = (n ≤ length buffer) × Packed (take n buffer)
 
 -- A path that was read is made by the rules of `from_slices`; what was not read gets 3.
 abbrev pub made_outcome : Limits → Option Path → Outcome Path

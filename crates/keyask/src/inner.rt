@@ -1,17 +1,18 @@
 // A key line's question, put to the calls that answer it. The room is lent by the caller, so that a program that answers many lines
 // clears none of it.
 
-ghost use Rattle.std.specs.Prelude.{◌≡◌, ◌≤◌, IfOk, length};
+ghost use Rattle.std.specs.Prelude.{◌≡◌, ◌≤◌, IfOk, length, take};
 ghost use Rattle.willow.specs.declared.Limits as theory;
+ghost use Rattle.willow.specs.Packed.{Packed, packed_count};
 ghost use Rattle.keyform.specs.Answering.{line_outcome};
 ghost use Rattle.keyform.specs.Reading.{read_path};
 ghost use Rattle.keyform.specs.Wording.{max_line};
-ghost use Rattle.keyask.specs.Found.{CountReadable, Finds, found_as, made_as, made_outcome, max_packed};
+ghost use Rattle.keyask.specs.Found.{Finds, made_as, made_outcome, max_packed};
 
 use keyform::MAX_LINE;
 use keyread::inner::Question;
 use refusals::{MAX_MCC, MAX_MPL};
-use willow::{Counted, Limits, Refusal};
+use willow::{Limits, Refusal};
 
 // The room that every line's path needs: for the lengths of its components and for their bytes, since of every two bytes of a line one
 // length and one byte can come at most, and for a path packed (`max_packed`).
@@ -41,19 +42,13 @@ impl Room {
     }
 }
 
-// What a call has answered that writes a path to the front of a buffer: its size there, and its count.
-fn found_in(c: Counted, buffer: &[u8]) -> Result<Option<(usize, usize)>, Refusal>
-    requires { CountReadable c buffer.now }
-    ensures { result ≡ found_as c buffer.now }
+// A path that a call has written to the front of a buffer, by how many bytes it says they are: its size there, and its count.
+fn written(n: u64, buffer: &[u8]) -> (usize, usize)
+    requires { (n ≤ length buffer.now) × Packed (take n buffer.now) }
+    ensures { result ≡ (n, packed_count (take n buffer.now)) }
 {
-    match c {
-        Counted::Refused(r) => Err(r),
-        Counted::Nothing => Ok(None),
-        Counted::Count(n) => {
-            let path = &buffer[..n as usize];
-            Ok(Some((path.len(), packed::inner::component_count(path))))
-        }
-    }
+    let path = &buffer[..n as usize];
+    (path.len(), packed::inner::component_count(path))
 }
 
 // The path of a text, made by the rules of `from_slices`: 3 where it is no path.
@@ -64,15 +59,13 @@ fn make_path(limits: Limits, text: &[u8], room: &mut Room) -> Result<(usize, usi
 {
     let read = keyread::inner::read_path(text, &mut room.lengths, &mut room.bytes);
     let (k, n) = read.ok_or(Refusal::BadKind)?;
-    let made = construction::from_slices(
+    let size = construction::from_slices(
         limits,
         &room.lengths[..8 * k],
         &room.bytes[..n],
         &mut room.packed,
-    );
-    // It is refused or a path: there is no outcome without one.
-    let path = found_in(made, &room.packed)?;
-    Ok(path.unwrap())
+    )?;
+    Ok(written(size, &room.packed))
 }
 
 // A line's outcome, its path in `next`: the greatest path, or the least above the path of the line's text.
@@ -84,15 +77,18 @@ pub fn ask(line: &[u8], room: &mut Room) -> Result<Option<(usize, usize)>, Refus
     match question {
         Question::Successor(text) => {
             let (size, k) = make_path(limits, text, room)?;
-            let above = least::successor(limits, &room.packed[..size], k as u64, &mut room.next);
-            found_in(above, &room.next)
+            let above = least::successor(limits, &room.packed[..size], k as u64, &mut room.next)?;
+            Ok(above.map(|n| written(n, &room.next)))
         }
         Question::NextGreater(text) => {
             let (size, k) = make_path(limits, text, room)?;
             let path = &room.packed[..size];
-            let above = least::greater_but_not_prefixed(limits, path, k as u64, &mut room.next);
-            found_in(above, &room.next)
+            let above = least::greater_but_not_prefixed(limits, path, k as u64, &mut room.next)?;
+            Ok(above.map(|n| written(n, &room.next)))
         }
-        Question::Greatest => found_in(greatest::new_max(limits, &mut room.next), &room.next),
+        Question::Greatest => {
+            let size = greatest::new_max(limits, &mut room.next)?;
+            Ok(Some(written(size, &room.next)))
+        }
     }
 }

@@ -1,6 +1,9 @@
-// The area map's sheet: its layout, and what its test means, are in specs/. The code that reads and writes it stands in the crates that
-// use this one, and finds every number by these names.
+// The area map's sheet: its layout, and what its test means, are in specs/. Here stand the places of its numbers, the sizes that a map is
+// made with, and the rows of bytes that have room for a map. What these bytes hold is read and written by the crates that use this one.
 #![tactic(auto)]
+
+pub mod rows;
+pub mod sizes;
 
 // The numbers that stand before the heads, in bytes, and the bytes of a head.
 pub const MAP_FRONT: usize = 40;

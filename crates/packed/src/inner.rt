@@ -10,14 +10,8 @@ ghost use Rattle.willow.specs.Paths.{common_count, compare_paths, is_prefix_of, 
 ghost use Rattle.packed.specs.Readable.{Readable};
 ghost use Rattle.packed.specs.Steps.{steps_within};
 
-use willow::{Limits, Order};
-
-// The bits of either number: as a number no smaller than each.
-fn either(a: u64, b: u64) -> u64
-    ensures { (a ≤ result) × (b ≤ result) }
-{
-    a | b
-}
+use std::cmp::Ordering;
+use willow::Limits;
 
 // Whether the bits of all steps together are at most MCL as a number. Then so is each step; but steps that are within may fail.
 // They are taken modulo 2^64: with fewer than 2^32 of them, and each below 2^32, no sum wraps, so no length falls. The loop is not
@@ -32,15 +26,12 @@ fn bits_within(mcl: u64, most: u64, b: &[u8], n: usize) -> bool
     if 4294967295 < n {
         return false;
     }
-    let end = 8 + 8 * n;
     let mut bits: u64 = 0;
     let mut from: u64 = 0;
-    let mut at: usize = 8;
-    while at < end {
-        let next = number::read_u64(b, at);
-        bits = either(bits, std::num::wrapping_sub_u64(next, from));
+    for i in 0..n {
+        let next = number::read_u64(b, 8 + 8 * i);
+        bits |= next.wrapping_sub(from);
         from = next;
-        at += 8;
     }
     if most < from {
         return false;
@@ -54,16 +45,12 @@ pub fn steps_within(mcl: u64, most: u64, b: &[u8], n: usize) -> bool
     requires { 8 + 8 * n ≤ length b.now }
     ensures { result ≡ steps_within mcl most b.now n 8 0 }
 {
-    if 16 <= n {
-        if bits_within(mcl, most, b, n) {
-            return true;
-        }
+    if 16 <= n && bits_within(mcl, most, b, n) {
+        return true;
     }
-    let end = 8 + 8 * n;
     let mut from: u64 = 0;
-    let mut at: usize = 8;
-    while at < end {
-        let next = number::read_u64(b, at);
+    for i in 0..n {
+        let next = number::read_u64(b, 8 + 8 * i);
         if next < from {
             return false;
         }
@@ -71,7 +58,6 @@ pub fn steps_within(mcl: u64, most: u64, b: &[u8], n: usize) -> bool
             return false;
         }
         from = next;
-        at += 8;
     }
     from <= most
 }
@@ -82,10 +68,7 @@ fn steps_fit(limits: Limits, b: &[u8], n: usize) -> bool
     ensures { result ≡ steps_fit limits b.now n 8 0 }
 {
     let bytes = b.len() - (8 + 8 * n);
-    if length_before(b, n) == bytes {
-        return steps_within(limits.mcl, limits.mpl, b, n);
-    }
-    false
+    length_before(b, n) == bytes && steps_within(limits.mcl, limits.mpl, b, n)
 }
 
 // Whether the bytes are the packed form of a path within the limits, whatever their length and content.
@@ -149,38 +132,27 @@ pub fn common(a: &[u8], ca: usize, b: &[u8], cb: usize) -> usize
     requires { Readable a.now ca × Readable b.now cb }
     ensures { result ≡ common_count (path_in a.now ca) (path_in b.now cb) }
 {
-    let mut i = 0;
-    while i < ca {
-        if cb <= i {
-            return i;
-        }
-        if component::equal(component(a, i), component(b, i)) {
-            i += 1;
-        } else {
+    let shorter = ca.min(cb);
+    for i in 0..shorter {
+        if !component::equal(component(a, i), component(b, i)) {
             return i;
         }
     }
-    i
+    shorter
 }
 
 // The order of two paths.
-pub fn compare(a: &[u8], ca: usize, b: &[u8], cb: usize) -> Order
+pub fn compare(a: &[u8], ca: usize, b: &[u8], cb: usize) -> Ordering
     requires { Readable a.now ca × Readable b.now cb }
     ensures { result ≡ compare_paths (path_in a.now ca) (path_in b.now cb) }
 {
-    let mut i = 0;
-    while i < ca {
-        if cb <= i {
-            return Order::Greater;
+    for i in 0..ca.min(cb) {
+        let order = component::compare(component(a, i), component(b, i));
+        if order.is_ne() {
+            return order;
         }
-        match component::compare(component(a, i), component(b, i)) {
-            Order::Less => return Order::Less,
-            Order::Greater => return Order::Greater,
-            Order::Equal => {}
-        }
-        i += 1;
     }
-    if i < cb { Order::Less } else { Order::Equal }
+    ca.cmp(&cb)
 }
 
 // Whether two paths are equal: of different counts they are not.
@@ -188,10 +160,7 @@ pub fn is_equal(a: &[u8], ca: usize, b: &[u8], cb: usize) -> bool
     requires { Readable a.now ca × Readable b.now cb }
     ensures { result ≡ is_equal (compare_paths (path_in a.now ca) (path_in b.now cb)) }
 {
-    if ca == cb {
-        return common(a, ca, b, cb) == ca;
-    }
-    false
+    ca == cb && common(a, ca, b, cb) == ca
 }
 
 // Whether the first path is a prefix of the second: a longer one is not.
@@ -199,10 +168,7 @@ pub fn is_prefix_of(a: &[u8], ca: usize, b: &[u8], cb: usize) -> bool
     requires { Readable a.now ca × Readable b.now cb }
     ensures { result ≡ is_prefix_of (path_in a.now ca) (path_in b.now cb) }
 {
-    if ca <= cb {
-        return common(a, ca, b, cb) == ca;
-    }
-    false
+    ca <= cb && common(a, ca, b, cb) == ca
 }
 
 // Whether one of the two is a prefix of the other.
@@ -211,10 +177,7 @@ pub fn is_related(a: &[u8], ca: usize, b: &[u8], cb: usize) -> bool
     ensures { result ≡ is_related (path_in a.now ca) (path_in b.now cb) }
 {
     let n = common(a, ca, b, cb);
-    if n == ca {
-        return true;
-    }
-    n == cb
+    n == ca || n == cb
 }
 
 // The packed form of the first n components, written over the front of out.

@@ -14,14 +14,12 @@ use Rattle.willow.specs.Entries.{compare_entries, compare_places, prunes, same_e
 use Rattle.willow.specs.Lists.{All, is_some}
 use Rattle.willow.specs.Numbers.{Bytes}
 use Rattle.willow.specs.Paths.{compare_paths}
-use Rattle.willow.specs.Ranges.{compare_ends, compare_ranges, end_above, includes, includes_range, new_closed}
+use Rattle.willow.specs.Ranges.{compare_ends, compare_ranges, end_above, includes, includes_range, new_closed, End, Range}
 use Rattle.willow.specs.Ranges3d.{compare_ranges3d, includes_range3d, includes_triplet3d, range3d_from, range3d_prunable}
 use Rattle.willow.specs.Refusals.{Outcome, value}
 use Rattle.tables.specs.TableRows.{LentPath, lent_rows, lent_written_rows}
 use Rattle.tables.specs.Tables.{AnsweredBy, refusal_of}
 use Rattle.range_end.specs.EndValues.{compare_end_value, compare_value_end, is_end_value}
-use Rattle.path_bounds.specs.declared.PathEnd.{PathEnd}
-use Rattle.path_bounds.specs.declared.PathRange.{PathRange}
 use Rattle.path_bounds.specs.LentPaths.{on_lent, HoldsBytes}
 use Rattle.path_bounds.specs.LentRanges.{end_paths, path_end_of, path_range_of, range_paths}
 use Rattle.path_range_intersection.specs.Sides.{sides_met}
@@ -47,38 +45,38 @@ Judged L ps o = AnsweredBy (lent_rows L ps) (refusal_of o)
 pub record GroupingTables : Type 1 where
   pub lent_asked : {A : Type 0} (L : Limits) (ps : List LentPath) (o : Outcome A) → refusal_of o ≡ none → All HoldsBytes ps → Judged L ps (on_lent L ps o)
   -- path_end
-  pub path_end_gt_val : (L : Limits) (end : PathEnd) (e path : List ℕ) (count : ℕ) → Bytes e → Bytes path
+  pub path_end_gt_val : (L : Limits) (end : (End ℕ)) (e path : List ℕ) (count : ℕ) → Bytes e → Bytes path
       → Judged L (end_paths end e ++ ((path, count) ∷ []))
       (on_lent L (end_paths end e ++ ((path, count) ∷ [])) (value (end_above compare_paths (path_end_of end e) (path_in path count))))
-  pub path_end_compare_ends : (L : Limits) (end : PathEnd) (e : List ℕ) (end2 : PathEnd) (e2 : List ℕ) → Bytes e → Bytes e2
+  pub path_end_compare_ends : (L : Limits) (end : (End ℕ)) (e : List ℕ) (end2 : (End ℕ)) (e2 : List ℕ) → Bytes e → Bytes e2
       → Judged L (end_paths end e ++ end_paths end2 e2)
       (on_lent L (end_paths end e ++ end_paths end2 e2) (value (compare_ends compare_paths (path_end_of end e) (path_end_of end2 e2))))
-  pub path_end_end_equals : (L : Limits) (end : PathEnd) (e path : List ℕ) (count : ℕ) → Bytes e → Bytes path
+  pub path_end_end_equals : (L : Limits) (end : (End ℕ)) (e path : List ℕ) (count : ℕ) → Bytes e → Bytes path
       → Judged L (end_paths end e ++ ((path, count) ∷ []))
       (on_lent L (end_paths end e ++ ((path, count) ∷ [])) (value (is_end_value compare_paths (path_end_of end e) (path_in path count))))
-  pub path_end_compare_end : (L : Limits) (end : PathEnd) (e path : List ℕ) (count : ℕ) → Bytes e → Bytes path
+  pub path_end_compare_end : (L : Limits) (end : (End ℕ)) (e path : List ℕ) (count : ℕ) → Bytes e → Bytes path
       → Judged L (end_paths end e ++ ((path, count) ∷ []))
       (on_lent L (end_paths end e ++ ((path, count) ∷ [])) (value (compare_end_value compare_paths (path_end_of end e) (path_in path count))))
-  pub path_end_compare_value : (L : Limits) (path : List ℕ) (count : ℕ) (end : PathEnd) (e : List ℕ) → Bytes e → Bytes path
+  pub path_end_compare_value : (L : Limits) (path : List ℕ) (count : ℕ) (end : (End ℕ)) (e : List ℕ) → Bytes e → Bytes path
       → Judged L (end_paths end e ++ ((path, count) ∷ []))
       (on_lent L (end_paths end e ++ ((path, count) ∷ [])) (value (compare_value_end compare_paths (path_in path count) (path_end_of end e))))
   -- path_range, and its intersection
   pub path_range_new_closed : (L : Limits) (s : List ℕ) (cs : ℕ) (e : List ℕ) (ce : ℕ) → Bytes s → Bytes e
       → Judged L ((s, cs) ∷ (e, ce) ∷ []) (on_paths L s cs e ce (λ p q. value (is_some (new_closed compare_paths p q))))
-  pub path_range_includes : (L : Limits) (range : PathRange) (s e path : List ℕ) (count : ℕ) → Bytes s → Bytes e → Bytes path
+  pub path_range_includes : (L : Limits) (range : (Range ℕ)) (s e path : List ℕ) (count : ℕ) → Bytes s → Bytes e → Bytes path
       → Judged L (range_paths range s e ++ ((path, count) ∷ []))
       (on_lent L (range_paths range s e ++ ((path, count) ∷ [])) (value (includes compare_paths (path_range_of range s e) (path_in path count))))
-  pub path_range_includes_range : (L : Limits) (range : PathRange) (s e : List ℕ) (range2 : PathRange) (s2 e2 : List ℕ)
+  pub path_range_includes_range : (L : Limits) (range : (Range ℕ)) (s e : List ℕ) (range2 : (Range ℕ)) (s2 e2 : List ℕ)
       → Bytes s → Bytes e → Bytes s2 → Bytes e2
       → Judged L (range_paths range s e ++ range_paths range2 s2 e2)
       (on_lent L (range_paths range s e ++ range_paths range2 s2 e2)
       (value (includes_range compare_paths (path_range_of range s e) (path_range_of range2 s2 e2))))
-  pub path_range_compare : (L : Limits) (range : PathRange) (s e : List ℕ) (range2 : PathRange) (s2 e2 : List ℕ)
+  pub path_range_compare : (L : Limits) (range : (Range ℕ)) (s e : List ℕ) (range2 : (Range ℕ)) (s2 e2 : List ℕ)
       → Bytes s → Bytes e → Bytes s2 → Bytes e2
       → Judged L (range_paths range s e ++ range_paths range2 s2 e2)
       (on_lent L (range_paths range s e ++ range_paths range2 s2 e2)
       (value (compare_ranges compare_paths (path_range_of range s e) (path_range_of range2 s2 e2))))
-  pub path_range_intersection : (L : Limits) (range : PathRange) (s e : List ℕ) (range2 : PathRange) (s2 e2 : List ℕ)
+  pub path_range_intersection : (L : Limits) (range : (Range ℕ)) (s e : List ℕ) (range2 : (Range ℕ)) (s2 e2 : List ℕ)
       → Bytes s → Bytes e → Bytes s2 → Bytes e2
       → Judged L (range_paths range s e ++ range_paths range2 s2 e2)
       (on_lent L (range_paths range s e ++ range_paths range2 s2 e2)

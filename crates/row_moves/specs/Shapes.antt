@@ -1,6 +1,6 @@
--- The shape of a sheet from four numbers.
-use Rattle.std.specs.Prelude.{ℕ}
+-- The shape that the code's four numbers give.
 use Rattle.sheet.specs.Rows.{Shape}
+use Rattle.row_moves.specs.declared.inner.Shape as code
 
-abbrev pub shape_of : ℕ → ℕ → ℕ → ℕ → Shape
-shape_of front head cell capacity = record { front = front; head_size = head; cell_size = cell; capacity = capacity }
+abbrev pub shape_of : code.Shape → Shape
+shape_of z = record { front = z.front; head_size = z.head_size; cell_size = z.cell_size; capacity = z.capacity }

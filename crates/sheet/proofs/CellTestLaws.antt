@@ -26,9 +26,9 @@ module _ (c : List ℕ) (k last : ℕ) (ek : k ≡ number_at c 0) (el : last ≡
   unfolding used_bytes
   used_is = rw (el, ek)
 
-  pub part_is : take (8 + 8 * k + last - 0) c ≡ used_part c
+  pub part_is : take (8 + 8 * k + last) c ≡ used_part c
   unfolding used_part
-  part_is = let n : 8 + 8 * k + last - 0 ≡ 8 + 8 * k + last = omega arith in rw (n, used_is)
+  part_is = rw used_is
 
 -- THE TEST.
 module _ (L : Limits) (c : List ℕ) where
@@ -55,13 +55,13 @@ module _ (L : Limits) (c : List ℕ) where
         abbrev used : ℕ
         used = 8 + 8 * k + last
 
-        pub cell_malformed : well_formed L (take (used - 0) c) ≡ false → cell_fits L c ≡ false
+        pub cell_malformed : well_formed L (take used c) ≡ false → cell_fits L c ≡ false
         unfolding cell_fits
         cell_malformed h =
             let formed : well_formed L (used_part c) ≡ false = rw (part_is c k last ek el) at h in
             rw (le-leb 8 (length c) long, ← ek, le-leb (8 + 8 * k) (length c) table, ← used_is c k last ek el, le-leb used (length c) inside, formed)
 
-        pub cell_formed : well_formed L (take (used - 0) c) ≡ true → cell_fits L c ≡ all_zero (take (length c - used) (drop used c))
+        pub cell_formed : well_formed L (take used c) ≡ true → cell_fits L c ≡ all_zero (take (length c - used) (drop used c))
         unfolding cell_fits
         cell_formed h =
             let formed : well_formed L (used_part c) ≡ true = rw (part_is c k last ek el) at h in

@@ -17,8 +17,7 @@ pub fn record_part(s: &[u8], base: usize, size: usize, i: usize) -> &[u8]
     ensures { result.now ≡ record_at base size i s.now }
 {
     let a = base + size * i;
-    let e = a + size;
-    &s[a..e]
+    &s[a..a + size]
 }
 
 // Whether a cell holds a path within the limits, and zeros behind it, whatever its length and content.
@@ -38,11 +37,7 @@ pub fn cell_fits(limits: Limits, cell: &[u8]) -> bool
         return false;
     }
     let used = 8 + 8 * k + last;
-    if inner::well_formed(limits, &cell[0..used]) {
-        let n = cell.len();
-        return number::is_zero(&cell[used..n]);
-    }
-    false
+    inner::well_formed(limits, &cell[..used]) && number::is_zero(&cell[used..])
 }
 
 // The packed path of a cell that was tested.
@@ -52,7 +47,7 @@ pub fn path_part(cell: &[u8]) -> &[u8]
 {
     let k = number::read_u64(cell, 0) as usize;
     let used = 8 + 8 * k + inner::length_before(cell, k);
-    &cell[0..used]
+    &cell[..used]
 }
 
 // The first n components of a path written into its cell, packed, from the first byte on, and zeros behind them.

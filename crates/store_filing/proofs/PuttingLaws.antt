@@ -39,6 +39,11 @@ head_written out a b c d h lo ld ea eb ec ed =
     let four = written_on out ((x ++ y) ++ w) h.digest c d 0 24 (omega arith) (omega arith) three ed in
     four ∙ overwrite_all out (((x ++ y) ++ w) ++ h.digest) (omega arith) ∙ simp (append_assoc, append-nil)
 
+-- rows moved, in a shape that is another by an equation
+pub raised_in : (z y : Shape) (s t : List ℕ) (i k m : ℕ) → z ≡ y → t ≡ with_rows z s (overwrite (rows_of z s) k (take m (drop i (rows_of z s))))
+    → t ≡ with_rows y s (overwrite (rows_of y s) k (take m (drop i (rows_of y s))))
+raised_in z y s t i k m e h = h ∙ ap (λ x. with_rows x s (overwrite (rows_of x s) k (take m (drop i (rows_of x s))))) e
+
 -- a row put in at i, among n that are in use
 module _ (z : Shape) (n i : ℕ) (s : List ℕ) (r : Room z s) (few : n < z.capacity) (at : i ≤ n) where
   abbrev raised : List Row
@@ -87,3 +92,15 @@ module _ (z : Shape) (n i : ℕ) (s : List ℕ) (r : Room z s) (few : n < z.capa
         put_mid_lem headed p w c (lc ∙ lent_cell ∙ sym ew)
         ∙ ap (λ l. overwrite l p c) (put_mid_lem t (z.front + z.head_size * i) v h lent_head)
         ∙ row_put t h c (lent_head ∙ ev) (lc ∙ lent_cell) e
+
+    -- by a size that is the cells' by an equation
+    module _ (size : ℕ) (es : size ≡ z.cell_size) where
+      place : cells_from z + size * i ≡ cells_from z + z.cell_size * i
+      place = ap (λ y. cells_from z + y * i) es
+
+      pub cell_lent : length (mid_of (cells_from z + size * i) w headed) ≡ z.cell_size
+      cell_lent = ap (λ a. length (mid_of a w headed)) place ∙ lent_cell
+
+      pub row_written : (c : List ℕ) → length c ≡ length (mid_of (cells_from z + size * i) w headed)
+          → put_mid (cells_from z + size * i) w headed c ≡ with_rows z s (put_at i n (h, c) (rows_of z s))
+      row_written c lc = ap (λ a. put_mid a w headed c) place ∙ row_lent c (lc ∙ ap (λ a. length (mid_of a w headed)) place)

@@ -2,19 +2,18 @@
 -- from it make its entry.
 use Prim.Native.Nat.{ℕ, ◌+◌, ◌*◌, ◌≤◌, ◌<◌}
 use mathlib.Core.Path.{◌≡◌, sym, ◌∙◌, ap}
-use mathlib.Core.Bool.{true, false}
+use mathlib.Core.Bool.{true}
 use mathlib.Core.List.{List}
 use native.Mathlib.Omega.{arith}
 use lib.ListN.{length, take, drop}
 use lib.Seq.{get_or-take, length-take-le, take_all}
-use borrow.Author.Tests.{eq-eqb, ne_eqb}
 use Rattle.willow.specs.declared.Limits.{Limits}
 use Rattle.willow.specs.Answers.{path_in}
-use Rattle.willow.specs.Entries.{Entry}
-use Rattle.willow.specs.Numbers.{Bytes, number_at}
+use Rattle.willow.specs.Lists.{All}
+use Rattle.willow.specs.Numbers.{number_at}
 use Rattle.willow.specs.Packed.{unpack, packed_count, Packed}
-use Rattle.willow.specs.Paths.{Path, is_prefix_of}
 use Rattle.willow.proofs.AnswerLaws.{accepted_words}
+use Rattle.willow.proofs.ListLaws.{every_means}
 use Rattle.willow.proofs.PackedLaws.{unpack_count}
 use Rattle.number.specs.Records.{record_at}
 use Rattle.number.proofs.RecordLaws.{mul_room, length_record, all_at}
@@ -25,32 +24,26 @@ use Rattle.sheet.specs.Cells.{cell_size_of, used_bytes, used_part, cell_path, ce
 use Rattle.sheet.specs.Rows.{Row, head, cell, zero_row, cells_from, Room, rows_of, row_at}
 use Rattle.sheet.proofs.CellProofs.{CellTested, cell_tested, cell_packed}
 use Rattle.sheet.proofs.RowLaws.{fitting_rows, head_at, cell_at}
-use Rattle.store_form.specs.Apart.{covers}
 use Rattle.store_form.specs.Stores.{store_head_size, store_shape, sizes_in, count_in, entry_in}
 use Rattle.store_form.specs.StoreTest.{is_store}
 use Rattle.store_form.proofs.TestedLaws.{known}
 use Rattle.store_rows.specs.EntryRows.{sizes_of, RowsReadable, row_entry}
 
 -- THE ROWS OF A STORE that passed may be read.
-pub store_readable : (s : List ℕ) → is_store s ≡ true → Bytes s → RowsReadable (sizes_in s).limits (sizes_in s).capacity (count_in s) s
-store_readable s stored b =
+pub store_readable : (s : List ℕ) → is_store s ≡ true → RowsReadable (sizes_in s).limits (sizes_in s).capacity (count_in s) s
+store_readable s stored =
     let k = known s stored in
     record {
       limits_accepted = k.sizes.limits_accepted;
       capacity_accepted = k.sizes.capacity_accepted;
-      bytes = b;
       room = k.room;
       count = k.sizes.count;
-      cells = k.rows.cells_fit;
+      cells = (every_means (λ r. cell_fits (sizes_in s).limits (cell r)) (take (count_in s) (rows_of (store_shape (sizes_in s)) s))).1 k.rows.cells_fit;
     }
 
--- COVERING by two subspaces and two paths that were read.
-module _ (o e : Entry) (a b : ℕ) (ea : a ≡ o.subspace) (eb : b ≡ e.subspace) where
-  pub covers_not : (a ≡ b → ⊥) → false ≡ covers o e
-  covers_not n = rw (← ea, ← eb, ne_eqb a b n)
-
-  pub covers_by : a ≡ b → (p q : Path) → p ≡ o.path → q ≡ e.path → is_prefix_of p q ≡ covers o e
-  covers_by k p q ep eq = rw (← ea, ← eb, eq-eqb a b k, ep, eq)
+-- the cells of the first n rows, one by one
+pub cells_hold : (L : Limits) (N n : ℕ) (s : List ℕ) → RowsReadable L N n s → All (λ r. cell_fits L (cell r) ≡ true) (take n (rows_of (store_shape (sizes_of L N)) s))
+cells_hold L N n s r = (every_means (λ x. cell_fits L (cell x)) (take n (rows_of (store_shape (sizes_of L N)) s))).0 r.cells
 
 -- ROW i OF A SHEET WITH ROOM for it: its head and its cell, as they are cut out.
 module _ (L : Limits) (N : ℕ) (s : List ℕ) (i : ℕ) (room : Room (store_shape (sizes_of L N)) s) (h : i < N) where
@@ -76,19 +69,15 @@ module _ (L : Limits) (N n : ℕ) (s : List ℕ) (i : ℕ) (r : RowsReadable L N
 
   -- its head
   module _ (v : List ℕ) (e : v ≡ record_at 64 56 i s) where
-    head_is : v ≡ head row
+    pub head_is : v ≡ head row
     head_is = e ∙ row_head L N s i r.room within
 
     pub head_long : length v ≡ store_head_size
     head_long = ap length e ∙ row_head_length L N s i r.room within
 
-    pub head_subspace : (a : ℕ) → a ≡ number_at v 0 → a ≡ (row_entry L N s i).subspace
-    unfolding entry_in
-    head_subspace a g = g ∙ ap (λ l. number_at l 0) head_is
-
-    -- with the path of the row's cell it makes the row's entry
+    -- with the row's path it makes the row's entry
     pub head_entry : (x : Head) → (x.subspace ≡ number_at v 0) × (x.timestamp ≡ number_at v 8) × (x.payload_length ≡ number_at v 16) × (x.digest ≡ drop 24 v)
-        → entry_at 0 x (cell_path (cell row)) ≡ row_entry L N s i
+        → entry_at 0 x (row_entry L N s i).path ≡ row_entry L N s i
     unfolding entry_in
     head_entry x f =
         let a = f.0 ∙ ap (λ l. number_at l 0) head_is in
@@ -108,7 +97,7 @@ module _ (L : Limits) (N n : ℕ) (s : List ℕ) (i : ℕ) (r : RowsReadable L N
       let f = (fitting_rows (store_shape (sizes_of L N)) s r.room).count in
       let k = r.count in
       let l = length-take-le n rows (omega arith) in
-      let t = all_at (λ x. cell_fits L (cell x) ≡ true) (take n rows) i none r.cells (omega arith) in
+      let t = all_at (λ x. cell_fits L (cell x) ≡ true) (take n rows) i none (cells_hold L N n s r) (omega arith) in
       (cell_tested L (cell row)).0 (ap (λ x. cell_fits L (cell x)) (sym (get_or-take n rows i none h)) ∙ t)
 
   module _ (c : List ℕ) (e : c ≡ record_at (cells_from (store_shape (sizes_of L N))) (cell_size_of L) i s) where
@@ -130,13 +119,6 @@ module _ (L : Limits) (N n : ℕ) (s : List ℕ) (i : ℕ) (r : RowsReadable L N
       pub path_readable : Readable p k
       path_readable = record { packed = path_packed; within = omega arith }
 
-      path_is : path_in p k ≡ cell_path (cell row)
-      unfolding path_in cell_path
-      path_is = let c = unpack_count p in take_all k (unpack p) (omega arith) ∙ ap unpack e
-
       pub path_entry : path_in p k ≡ (row_entry L N s i).path
-      unfolding entry_in
-      path_entry = path_is
-
-      pub row_entry_lem : (x : Head) → entry_at 0 x (cell_path (cell row)) ≡ row_entry L N s i → entry_at 0 x (path_in p k) ≡ row_entry L N s i
-      row_entry_lem x g = ap (entry_at 0 x) path_is ∙ g
+      unfolding path_in cell_path entry_in
+      path_entry = let c = unpack_count p in take_all k (unpack p) (omega arith) ∙ ap unpack e

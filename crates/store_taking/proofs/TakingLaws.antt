@@ -9,6 +9,7 @@ use native.Mathlib.Omega.{arith}
 use lib.Dec.{eqb}
 use lib.ListN.{length, take, drop, length-map}
 use borrow.Author.Tests.{lt-ltb, eqb-false}
+use Rattle.std.specs.Prelude.{Result, Ok, Err}
 use Rattle.willow.specs.declared.Limits.{Limits}
 use Rattle.willow.specs.declared.Refusal.{Refusal}
 use Rattle.willow.specs.declared.Refusal.TheVariants.{TotalFull}
@@ -79,8 +80,8 @@ module _ (s : List ℕ) (stored : is_store s ≡ true) (x : Numbers) (same : x �
   pub payloads_word : payloads (map (entry_in 0) (take x.count (rows_of (store_shape (sizes_of x.limits x.capacity)) s))) ≤ max_word
   payloads_word = rw same (meeting.payloads_word s stored)
 
-  pub rows_readable : Bytes s → RowsReadable x.limits x.capacity x.count s
-  rows_readable b = rw same (store_readable s stored b)
+  pub rows_readable : RowsReadable x.limits x.capacity x.count s
+  rows_readable = rw same (store_readable s stored)
 
 -- What is known of an offer that is filed: a row is free, its place is among the rows that are left, and the new numbers do not wrap.
 pub record Filing (x : Numbers) (a : Scan) (o : Entry) (s : List ℕ) : Type 0 where
@@ -154,7 +155,7 @@ module _ (s : List ℕ) (b : Bytes s) (stored : is_store s ≡ true) (head : Hea
       pub pruned_few : a.pruned ≤ x.count
       pruned_few = rw same (meeting.pruned_few s stored b head p a scan_in)
 
-      module _ (room : head.payload_length ≤ max_word - x.held - x.let_go) (d : Offered)
+      module _ (room : head.payload_length ≤ max_word - x.held - x.let_go) (d : Result Offered Refusal)
           (decided : answer_of d ≡ answer_by false a.outdated a.repeat (eqb (x.count - a.pruned) x.capacity) a.pruned) where
         fits : held_in s + let_go_in s + head.payload_length ≤ max_word
         fits =
@@ -166,7 +167,7 @@ module _ (s : List ℕ) (b : Bytes s) (stored : is_store s ≡ true) (head : Hea
         answered = (rw same at decided) ∙ meeting.answer_is s stored b head p a scan_in fits
 
         -- 14
-        pub refused_so : (r : Refusal) → d ≡ offered.Refused r → Case (refused r) s
+        pub refused_so : (r : Refusal) → d ≡ Err r → Case (refused r) s
         refused_so r h = case (refused r) s (sym (ap answer_of h) ∙ answered) (as_found s b stored)
 
         -- not filed
@@ -175,14 +176,14 @@ module _ (s : List ℕ) (b : Bytes s) (stored : is_store s ≡ true) (head : Hea
           unfolding state_in
           let_go_lem = (rw same at written) ∙ let_go_put s b stored (let_go_in s + head.payload_length)
 
-          pub outdated_so : d ≡ offered.Outdated → Case outdated u
+          pub outdated_so : d ≡ Ok offered.Outdated → Case outdated u
           outdated_so h = case outdated u (sym (ap answer_of h) ∙ answered) let_go_lem
 
-          pub repeat_so : d ≡ offered.Repeat → Case repeated u
+          pub repeat_so : d ≡ Ok offered.Repeat → Case repeated u
           repeat_so h = case repeated u (sym (ap answer_of h) ∙ answered) let_go_lem
 
         -- filed
-        module _ (k : ℕ) (h : d ≡ offered.Taken k) where
+        module _ (k : ℕ) (h : d ≡ Ok (offered.Taken k)) where
           means : (a.outdated ≡ false) × (a.repeat ≡ false) × (eqb (x.count - a.pruned) x.capacity ≡ false) × (a.pruned ≡ k)
           means = taken_means a.outdated a.repeat (eqb (x.count - a.pruned) x.capacity) a.pruned k (sym decided ∙ ap answer_of h)
 

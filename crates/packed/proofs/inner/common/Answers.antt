@@ -1,7 +1,7 @@
-use Rattle.std.proofs.Common.{◌≡◌, suc, ◌+◌, ◌-◌, Bool, true, false, cond, drop, sym, ap, ◌∙◌, arith}
+use Rattle.std.proofs.Common.{◌≡◌, suc, ◌+◌, Bool, true, false, cond, drop, sym, ap, ◌∙◌, arith}
 use Rattle.willow.specs.Answers.{path_in}
 use Rattle.willow.specs.Paths.{common_count}
-use Rattle.packed.proofs.WalkLaws.{common_turn, common_ended, common_short}
+use Rattle.packed.proofs.WalkLaws.{common_turn, common_over}
 use Rattle.packed.proofs.inner.common.Goals as goal
 use Rattle.packed.proofs.inner.common.Goals.{After-equal}
 
@@ -14,21 +14,18 @@ turned : (c : After-equal) (same : Bool) → c.equal.result ≡ same
     i + cond same (suc (common_count (drop (i + 1) p) (drop (i + 1) q))) 0 ≡ common_count p q)
 turned c same e =
     let i = c.loop-i.i in
+    let m = c.min-shorter.ensures in
     ap (λ n. i + n) (sym (common_turn _ _ _ _ c.requires.0 c.requires.1 i _ _
-    c.loop-i-test.true c.if-cb-i.false c.component.ensures c.component-in-loop-i.ensures same (sym e ∙ c.equal.ensures)))
-    ∙ c.loop-i.invariant.1
+    (omega arith) (omega arith) c.component.ensures c.component-in-loop-i.ensures same (sym e ∙ c.equal.ensures)))
+    ∙ c.loop-i.invariant
 
-pub loop-i-init : goal.loop-i-init
-loop-i-init c = (omega arith, omega arith)
-
-pub returns-then-cb-i : goal.returns-then-cb-i
-returns-then-cb-i c = omega (arith, common_short _ _ _ _ c.requires.0 c.requires.1 c.loop-i.i c.loop-i-test.true c.if-cb-i.true)
+pub returns-then-not-equal : goal.returns-then-not-equal
+returns-then-not-equal c = omega (arith, turned (goal.at.returns-then-not-equal c).After-equal false c.if-not-equal.true)
 
 pub loop-i-preserved : goal.loop-i-preserved
-loop-i-preserved c = (omega arith, omega (arith, turned (goal.at.loop-i-preserved c).After-equal true c.if-equal.true))
-
-pub returns-else-equal : goal.returns-else-equal
-returns-else-equal c = omega (arith, turned (goal.at.returns-else-equal c).After-equal false c.if-equal.false)
+loop-i-preserved c = omega (arith, turned (goal.at.loop-i-preserved c).After-equal true c.if-not-equal.false)
 
 pub returns : goal.returns
-returns c = omega (arith, common_ended _ _ _ _ c.requires.0 c.requires.1 c.loop-i.i c.loop-i-test.false)
+returns c =
+    let m = c.min-shorter.ensures in
+    omega (arith, common_over _ _ _ _ c.requires.0 c.requires.1 c.loop-i.i (omega arith), c.loop-i.invariant)

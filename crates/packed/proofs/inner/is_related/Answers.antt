@@ -14,5 +14,5 @@ related c = related_counted _ _ _ _ c.requires.0 c.requires.1 _ c.common-n.ensur
 pub returns-then-n-ca : goal.returns-then-n-ca
 returns-then-n-ca c = sym (related (goal.at.returns-then-n-ca c).After-common-n ∙ rw (eq-eqb _ _ c.if-n-ca.true))
 
-pub returns : goal.returns
-returns c = sym (related (goal.at.returns c).After-common-n ∙ rw (ne_eqb _ _ c.if-n-ca.false))
+pub returns-else-n-ca : goal.returns-else-n-ca
+returns-else-n-ca c = sym (related (goal.at.returns-else-n-ca c).After-common-n ∙ rw (ne_eqb _ _ c.if-n-ca.false))

@@ -1,17 +1,21 @@
-use Prim.Native.Nat.{◌-◌}
-use mathlib.Core.Path.{refl, sym, ◌∙◌}
-use native.Mathlib.Omega.{arith}
+use Rattle.std.proofs.Common.{refl, sym, ◌∙◌}
 use Rattle.store_passes.proofs.LeftLaws.{ascends_next, ascends_stop, ascends_end}
 use Rattle.store_passes.proofs.inner.rows_ascend.Goals as goal
 
 pub loop-i-init : goal.loop-i-init
-loop-i-init c = (omega arith, refl)
+loop-i-init c = refl
 
 pub loop-i-preserved : goal.loop-i-preserved
-loop-i-preserved c = (omega arith, sym (ascends_next c.args.limits _ _ _ c.requires.room c.requires.count _ c.loop-i-test.true _ c.row_below.ensures c.if-row_below.true) ∙ c.loop-i.invariant.1)
+loop-i-preserved c =
+    let r = c.args.rows in
+    sym (ascends_next r _ c.loop-i.auto.i c.loop-i-test.true _ c.is_below.ensures c.if-not-is_below.false) ∙ c.loop-i.invariant
 
-pub returns-else-row_below : goal.returns-else-row_below
-returns-else-row_below c = sym (ascends_stop c.args.limits _ _ _ c.requires.room c.requires.count _ c.loop-i-test.true _ c.row_below.ensures c.if-row_below.false) ∙ c.loop-i.invariant.1
+pub returns-then-not-is_below : goal.returns-then-not-is_below
+returns-then-not-is_below c =
+    let r = c.args.rows in
+    sym (ascends_stop r _ c.loop-i.auto.i c.loop-i-test.true _ c.is_below.ensures c.if-not-is_below.true) ∙ c.loop-i.invariant
 
 pub returns : goal.returns
-returns c = sym (ascends_end c.args.limits _ _ _ c.requires.room c.requires.count _ c.loop-i-test.false c.loop-i.invariant.0) ∙ c.loop-i.invariant.1
+returns c =
+    let r = c.args.rows in
+    sym (ascends_end r _ c.loop-i-test.false) ∙ c.loop-i.invariant
