@@ -37,7 +37,8 @@ use Rattle.map_form.specs.Maps.{sizes_in, count_in}
 use Rattle.map_form.specs.MapTest.{is_map, map_refusal}
 use Rattle.map_law.specs.Insertions.{fresh_map, AreaArgument, parts_in, kinds_missing, area_refusal}
 use Rattle.listing_law.specs.Listings.{listing, listed_number, listed_bytes, positions_for}
-use Rattle.map_reading.specs.Rules.{rule_at, rule_path}
+use Rattle.map_rules.specs.RulePlaces.{rule_at}
+use Rattle.map_reading.specs.Rules.{rule_path}
 use Rattle.store_form.specs.Stores.{state_in}
 use Rattle.store_form.specs.StoreTest.{is_store, store_refusal}
 use Rattle.store_law.specs.Offers.{fresh_store}

@@ -6,7 +6,8 @@ use mathlib.Core.List.{List, []}
 use mathlib.Core.Option.{Option, none, some}
 use native.Mathlib.Omega.{arith}
 use Rattle.willow.specs.declared.Refusal.{Refusal}
-use Rattle.willow.specs.Answers.{unless}
+use Rattle.std.specs.Prelude as code
+use Rattle.willow.specs.Answers.{optional_outcome_by, unless}
 use Rattle.willow.specs.Areas.{Area}
 use Rattle.willow.specs.AreasOfInterest.{of_interest}
 use Rattle.willow.specs.LeastPaths.{successor}
@@ -18,12 +19,12 @@ use Rattle.tables.specs.Tables.{refusal_of}
 use Rattle.tables.proofs.BufferLaws.{apart}
 use Rattle.least_writing.specs.Written.{path_or}
 use Rattle.reading.specs.Reading.{bytes_or}
-use Rattle.area_intersection.specs.declared.AreaMet.{AreaMet}
-use Rattle.area_intersection.specs.declared.AreaMet.TheVariants as met
+use Rattle.area.specs.declared.Area as declared
+use Rattle.area_intersection.specs.declared.Met.{Met}
+use Rattle.area_intersection.specs.declared.Met.TheVariants as met
 use Rattle.area_intersection.specs.Standing as areas
 use Rattle.area_intersection.specs.Standing.{Standing}
-use Rattle.area_of_interest.specs.declared.InterestMet.{InterestMet}
-use Rattle.area_of_interest.specs.declared.InterestMet.TheVariants as interest
+use Rattle.area_of_interest.specs.declared.AreaOfInterest as interest
 use Rattle.area_of_interest.specs.Interests as interests
 use Rattle.area_of_interest.specs.Interests.{StandingInterest}
 use Rattle.answer_law.specs.PartAnswers.{part_of, PartAnswers}
@@ -35,18 +36,19 @@ no_part (refused r) n = refl
 no_part absent n = refl
 no_part (value v) n = absurd (n v refl)
 
-standing_part_lem : (m : AreaMet) (s : Standing) (a b : List ℕ) → areas.met_outcome m ≡ value s → areas.standing_part m a b ≡ part_of s.whose a b
-standing_part_lem (met.Refused r) s a b e = apart (refused r) (value s) e (λ h. omega arith)
-standing_part_lem met.Nothing s a b e = apart absent (value s) e (λ h. omega arith)
-standing_part_lem (met.First m) s a b e = ap (λ w. part_of w a b) (ap (λ x. x.whose) ((same_value _ s).0 e))
-standing_part_lem (met.Second m) s a b e = ap (λ w. part_of w a b) (ap (λ x. x.whose) ((same_value _ s).0 e))
+standing_part_lem : (m : code.Result (code.Option (Met declared.Area)) Refusal) (s : Standing) (a b : List ℕ) → optional_outcome_by areas.standing_of m ≡ value s
+    → areas.standing_part m a b ≡ part_of s.whose a b
+standing_part_lem (code.Err r) s a b e = apart (refused r) (value s) e (λ h. omega arith)
+standing_part_lem (code.Ok code.None) s a b e = apart absent (value s) e (λ h. omega arith)
+standing_part_lem (code.Ok (code.Some (met.First m))) s a b e = ap (λ w. part_of w a b) (ap (λ x. x.whose) ((same_value _ s).0 e))
+standing_part_lem (code.Ok (code.Some (met.Second m))) s a b e = ap (λ w. part_of w a b) (ap (λ x. x.whose) ((same_value _ s).0 e))
 
-interest_part : (m : InterestMet) (s : StandingInterest) (a b : List ℕ) → interests.met_outcome m ≡ value s
-    → interests.standing_part m a b ≡ part_of s.area.whose a b
-interest_part (interest.Refused r) s a b e = apart (refused r) (value s) e (λ h. omega arith)
-interest_part interest.Nothing s a b e = apart absent (value s) e (λ h. omega arith)
-interest_part (interest.First m) s a b e = ap (λ w. part_of w a b) (ap (λ x. x.area.whose) ((same_value _ s).0 e))
-interest_part (interest.Second m) s a b e = ap (λ w. part_of w a b) (ap (λ x. x.area.whose) ((same_value _ s).0 e))
+interest_part : (m : code.Result (code.Option (Met interest.AreaOfInterest)) Refusal) (s : StandingInterest) (a b : List ℕ) → optional_outcome_by interests.standing_of m ≡ value s
+    → areas.standing_part m a b ≡ part_of s.area.whose a b
+interest_part (code.Err r) s a b e = apart (refused r) (value s) e (λ h. omega arith)
+interest_part (code.Ok code.None) s a b e = apart absent (value s) e (λ h. omega arith)
+interest_part (code.Ok (code.Some (met.First m))) s a b e = ap (λ w. part_of w a b) (ap (λ x. x.area.whose) ((same_value _ s).0 e))
+interest_part (code.Ok (code.Some (met.Second m))) s a b e = ap (λ w. part_of w a b) (ap (λ x. x.area.whose) ((same_value _ s).0 e))
 
 -- THE END OF A RANGE.
 abbrev is_closed : {A : Type 0} → End A → ℕ

@@ -11,8 +11,8 @@ use lib.Dec.{leb, ltb, eqb}
 use lib.ListN.{length, take, drop, get_or, length-append, take-append-drop}
 use lib.Seq.{take-append_seam}
 use borrow.Author.Tests.{leb-true, leb-false, le-leb, lt-leb, ltb-true, ltb-false, lt-ltb, le-ltb, eqb-true}
-use Rattle.willow.specs.declared.Order.{Order}
-use Rattle.willow.specs.declared.Order.TheVariants.{Less, Equal, Greater}
+use Rattle.std.specs.declared.cmp.Ordering.{Ordering}
+use Rattle.std.specs.declared.cmp.Ordering.TheVariants.{Less, Equal, Greater}
 use Rattle.willow.specs.Orders.{is_equal}
 use Rattle.willow.specs.Packed.{joined}
 use Rattle.willow.specs.Paths.{Component, Path, path_length, Prefix, compare_paths, is_prefix_of, common_count, common_prefix, Common}
@@ -128,7 +128,7 @@ component_length_is i p n = (
 )
 
 -- TWO PATHS.
-equal_means : (o : Order) → (is_equal o ≡ true) ↔ (o ≡ Equal)
+equal_means : (o : Ordering) → (is_equal o ≡ true) ↔ (o ≡ Equal)
 equal_means Less = (λ e. absurd (false≢true e), λ e. let z : ◌≡◌ {A = ℕ} 0 1 = cc in absurd (omega arith))
 equal_means Equal = (λ e. refl, λ e. refl)
 equal_means Greater = (λ e. absurd (false≢true e), λ e. let z : ◌≡◌ {A = ℕ} 0 1 = cc in absurd (omega arith))

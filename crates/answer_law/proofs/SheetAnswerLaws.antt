@@ -18,8 +18,9 @@ use Rattle.area_kinds.specs.AreaKinds.{Parts}
 use Rattle.map_form.specs.Maps.{MapSizes, Rule, IsMap, rules_in, count_in}
 use Rattle.map_form.specs.MapTest.{map_refusal}
 use Rattle.map_form.proofs.MapProofs.{map_reading}
-use Rattle.map_reading.proofs.RuleAtLaws.{rules_many}
-use Rattle.map_reading.specs.Rules.{rule_parts, no_rule, count_outcome, rule_read, rule_path}
+use Rattle.map_rules.specs.RulePlaces.{rule_parts, no_rule}
+use Rattle.map_rules.proofs.RuleAtLaws.{rules_many}
+use Rattle.map_reading.specs.Rules.{count_outcome, rule_read, rule_path}
 use Rattle.store_form.specs.Stores.{IsStore}
 use Rattle.store_form.specs.StoreTest.{store_refusal}
 use Rattle.store_form.proofs.ReadingLaws.{store_reading}

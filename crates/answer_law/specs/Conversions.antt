@@ -15,7 +15,7 @@ use Rattle.range_3d_intersection.specs.Sides3d.{counts_at, converted_after, coun
 
 -- For every answer that is not refused, of n bytes written. The premise beside it is that the buffer of the area's path holds bytes.
 abbrev pub ConversionReadBack : Type 0
-ConversionReadBack = (L : Limits) (a : area.Area) (base out : List ℕ) (m : code.Range3d) (n : ℕ) → Bytes base
+ConversionReadBack = (L : Limits) (a : area.Area) (base out : List ℕ) (m : code.Range3d ℕ) (n : ℕ) → Bytes base
     → converted_after (written_length (packed_outcome (on_path L base a.count (next_greater_of L))) out) (counts_at (range3d_from L (area_in a base)))
     ≡ value (counts_of m, n)
     → range3d_of m base (take n (written_buffer (packed_outcome (on_path L base a.count (next_greater_of L))) out)) ≡ range3d_from L (area_in a base)

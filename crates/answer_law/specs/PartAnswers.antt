@@ -5,7 +5,8 @@ use Rattle.std.proofs.Math.Option.{Option, none, some}
 use Rattle.willow.specs.declared.AreaSubspace.{AreaSubspace}
 use Rattle.willow.specs.declared.Limits.{Limits}
 use Rattle.willow.specs.declared.Refusal.{Refusal}
-use Rattle.willow.specs.Answers.{unless}
+use Rattle.std.specs.Prelude as code
+use Rattle.willow.specs.Answers.{optional_outcome_by, outcome_if_any, unless}
 use Rattle.willow.specs.Areas.{Area}
 use Rattle.willow.specs.AreasOfInterest.{of_interest}
 use Rattle.tables.specs.KnownRanges.{singleton_range}
@@ -15,15 +16,14 @@ use Rattle.willow.specs.Refusals.{Outcome, absent, value}
 use Rattle.tables.specs.Tables.{refusal_of}
 use Rattle.least.specs.Places.{successor_of}
 use Rattle.reading.specs.Reading.{bytes_or}
-use Rattle.range.specs.NumberRanges.{range_or}
-use Rattle.subspace.specs.Subspaces.{subspace_or}
 use Rattle.entry.specs.declared.Head.{Head}
 use Rattle.entry.specs.Heads.{entry_at}
 use Rattle.area.specs.LentAreas.{triplet_at}
-use Rattle.area_intersection.specs.declared.AreaMet.{AreaMet}
+use Rattle.area.specs.declared.Area as declared
+use Rattle.area_intersection.specs.declared.Met.{Met}
 use Rattle.area_intersection.specs.Standing as areas
 use Rattle.area_intersection.specs.Standing.{Standing, Whose, first, second}
-use Rattle.area_of_interest.specs.declared.InterestMet.{InterestMet}
+use Rattle.area_of_interest.specs.declared.AreaOfInterest as interest
 use Rattle.area_of_interest.specs.Interests as interests
 use Rattle.area_of_interest.specs.Interests.{StandingInterest}
 use Rattle.builder_law.specs.Building.{by_refusal}
@@ -42,14 +42,15 @@ pub record PartAnswers : Type 1 where
   pub part : (v : List ℕ) → bytes_or (value v) ≡ v
   pub no_part : (o : Outcome (List ℕ)) → ((v : List ℕ) → o ≡ value v → ⊥) → bytes_or o ≡ []
   -- the part that an intersection of areas, and of areas of interest, gives: of the input whose path stands
-  pub standing_part_lem : (m : AreaMet) (s : Standing) (a b : List ℕ) → areas.met_outcome m ≡ value s → areas.standing_part m a b ≡ part_of s.whose a b
-  pub interest_part : (m : InterestMet) (s : StandingInterest) (a b : List ℕ) → interests.met_outcome m ≡ value s
-      → interests.standing_part m a b ≡ part_of s.area.whose a b
+  pub standing_part_lem : (m : code.Result (code.Option (Met declared.Area)) Refusal) (s : Standing) (a b : List ℕ)
+      → optional_outcome_by areas.standing_of m ≡ value s → areas.standing_part m a b ≡ part_of s.whose a b
+  pub interest_part : (m : code.Result (code.Option (Met interest.AreaOfInterest)) Refusal) (s : StandingInterest) (a b : List ℕ)
+      → optional_outcome_by interests.standing_of m ≡ value s → areas.standing_part m a b ≡ part_of s.area.whose a b
   -- a range, and a subspace, that there may not be
-  pub range_there : (r : Range ℕ) → range_or (some r) ≡ value r
-  pub no_range_lem : range_or none ≡ absent
-  pub subspace_there : (s : AreaSubspace) → subspace_or (some s) ≡ value s
-  pub no_subspace : subspace_or none ≡ absent
+  pub range_there : (r : Range ℕ) → outcome_if_any (some r) ≡ value r
+  pub no_range_lem : outcome_if_any {A = Range ℕ} none ≡ absent
+  pub subspace_there : (s : AreaSubspace) → outcome_if_any (some s) ≡ value s
+  pub no_subspace : outcome_if_any {A = AreaSubspace} none ≡ absent
   -- the end of the range of one path
   pub singleton_end : (L : Limits) (p q : Path) → (successor_of L p ≡ value q) ↔ ((singleton_range L p).end ≡ closed q)
   pub singleton_open : (L : Limits) (p : Path) → (successor_of L p ≡ absent) ↔ ((singleton_range L p).end ≡ endless)

@@ -1,6 +1,6 @@
 -- WHAT THE QUESTIONS ON LENT PATHS ANSWER, by meaning: of the paths p and q that are lent (`PathQuestions` of willow says which these are).
 use Rattle.std.specs.Prelude.{ℕ, ◌≤◌, ◌<◌, ◌≡◌, ◌↔◌, true, List, [], ◌∷◌, ◌++◌, length}
-use Rattle.willow.specs.declared.Order.TheVariants.{Less, Equal, Greater}
+use Rattle.std.specs.declared.cmp.Ordering.TheVariants.{Less, Equal, Greater}
 use Rattle.willow.specs.Packed.{joined}
 use Rattle.willow.specs.Paths.{Component, Path, PathBelow, Prefix, Related, Common}
 use Rattle.willow.specs.Refusals.{absent, value}

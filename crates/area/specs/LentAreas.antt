@@ -6,6 +6,8 @@ use Rattle.willow.specs.Areas.{Area, Triplet}
 use Rattle.willow.specs.Paths.{Path}
 use Rattle.willow.specs.Refusals.{Outcome}
 use Rattle.range.specs.NumberRanges.{range_of}
+use Rattle.packed.specs.LentPaths.{path_of}
+use Rattle.area.specs.declared.lent.LentArea.{LentArea}
 use Rattle.area.specs.declared.Area as code
 
 -- The area of a struct and a path; and with the path that a buffer holds, as many components as the struct counts.
@@ -14,6 +16,10 @@ area_at a p = record { subspace = a.subspace; path = p; times = range_of a.times
 
 abbrev pub area_in : code.Area → List ℕ → Area
 area_in a b = area_at a (path_in b a.count)
+
+-- The area of an area whose path was tested.
+abbrev pub area_of : LentArea → Area
+area_of a = record { subspace = a.subspace; path = path_of a.path; times = range_of a.times }
 
 -- Where an entry stands.
 abbrev pub triplet_at : ℕ → Path → ℕ → Triplet

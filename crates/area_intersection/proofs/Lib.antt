@@ -1,2 +1,1 @@
-pub mod MetLaws
 pub mod StandingLaws

@@ -8,7 +8,7 @@ use mathlib.Core.Bool.{Bool, true, false, cond}
 use native.Mathlib.Omega.{arith}
 use lib.ListN.{length}
 use Rattle.willow.specs.declared.AreaSubspace.{AreaSubspace}
-use Rattle.willow.specs.declared.Order.TheVariants.{Less}
+use Rattle.std.specs.declared.cmp.Ordering.TheVariants.{Less}
 use Rattle.willow.specs.Areas.{Area, area_intersection, area_of, longer_path, subspace_intersection}
 use Rattle.willow.specs.Orders.{compare_numbers}
 use Rattle.willow.specs.Paths.{Path, compare_components, compare_paths, is_prefix_of}

@@ -6,12 +6,13 @@ use Rattle.willow.specs.declared.AreaSubspace.{AreaSubspace}
 use Rattle.willow.specs.Areas.{Area, area_intersection}
 use Rattle.willow.specs.Paths.{Path, is_prefix_of}
 use Rattle.willow.specs.Ranges.{Range}
-use Rattle.willow.specs.Refusals.{Outcome, refused, absent, value}
+use Rattle.willow.specs.declared.Refusal.{Refusal}
+use Rattle.willow.specs.Refusals.{Outcome, absent, value}
 use Rattle.range.specs.NumberRanges.{range_of}
-use Rattle.area_intersection.specs.declared.AreaMet.{AreaMet}
-use Rattle.area_intersection.specs.declared.AreaMet.TheVariants as met
-use Rattle.area_intersection.specs.declared.inner.Side as code
-use Rattle.area_intersection.specs.declared.inner.Side.TheVariants as side
+use Rattle.std.specs.Prelude as code
+use Rattle.area.specs.declared.Area as declared
+use Rattle.area_intersection.specs.declared.Met.{Met}
+use Rattle.area_intersection.specs.declared.Met.TheVariants.{First, Second}
 
 -- Whose path stands.
 pub data Whose : Type 0 where
@@ -28,10 +29,6 @@ pub record Standing : Type 0 where
   pub count : ℕ
   pub subspace : AreaSubspace
   pub times : Range ℕ
-
--- "The longer of the two paths .. if they are related (the second's if they are equal); else none."
-abbrev pub longer_side : Path → Path → Option Whose
-longer_side p q = cond (is_prefix_of p q) (some second) (cond (is_prefix_of q p) (some first) none)
 
 -- THE ANSWER: none where the areas have no intersection m; else whose path stands, how many components it has, and what m has
 -- beside its path.
@@ -50,30 +47,17 @@ standing_for a b (some m) = value (record {
 unfoldable pub standing : Area → Area → Outcome Standing
 standing a b = standing_for a b (area_intersection a b)
 
--- What the cases of the code's answers mean.
-abbrev pub met_outcome : AreaMet → Outcome Standing
-met_outcome (met.Refused r) = refused r
-met_outcome met.Nothing = absent
-met_outcome (met.First m) = value (record { whose = first; count = m.count; subspace = m.subspace; times = range_of m.times })
-met_outcome (met.Second m) = value (record { whose = second; count = m.count; subspace = m.subspace; times = range_of m.times })
-
-abbrev pub side_of : code.Side → Option Whose
-side_of side.Neither = none
-side_of side.First = some first
-side_of side.Second = some second
-
--- The answer from its parts, each buffer's count given.
-abbrev pub standing_at : Option Whose → ℕ → ℕ → AreaSubspace → Range ℕ → Outcome Standing
-standing_at none j k s t = absent
-standing_at (some first) j k s t = value (record { whose = first; count = j; subspace = s; times = t })
-standing_at (some second) j k s t = value (record { whose = second; count = k; subspace = s; times = t })
+-- What the code's answers mean.
+abbrev pub standing_of : Met declared.Area → Standing
+standing_of (First m) = record { whose = first; count = m.count; subspace = m.subspace; times = range_of m.times }
+standing_of (Second m) = record { whose = second; count = m.count; subspace = m.subspace; times = range_of m.times }
 
 -- The buffer beside which an answer stands: "a part of one of the two lent inputs"; an empty part where there is no answer.
-abbrev pub standing_part : AreaMet → List ℕ → List ℕ → List ℕ
-standing_part (met.Refused r) a b = []
-standing_part met.Nothing a b = []
-standing_part (met.First m) a b = a
-standing_part (met.Second m) a b = b
+abbrev pub standing_part : {A : Type 0} → code.Result (code.Option (Met A)) Refusal → List ℕ → List ℕ → List ℕ
+standing_part (code.Err r) a b = []
+standing_part (code.Ok code.None) a b = []
+standing_part (code.Ok (code.Some (First m))) a b = a
+standing_part (code.Ok (code.Some (Second m))) a b = b
 
 -- WHAT THE ANSWER MEANS, of the intersection that `willow` defines: there is none exactly if there is no intersection; else
 -- subspace and times are its own, its path is the one that stands, the first's only where that is longer, and the count is that

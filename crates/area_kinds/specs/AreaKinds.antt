@@ -5,14 +5,9 @@ use Rattle.willow.specs.declared.AreaSubspace.{AreaSubspace}
 use Rattle.willow.specs.Areas.{Area, subspace_from}
 use Rattle.willow.specs.Paths.{Path}
 use Rattle.willow.specs.Ranges.{Range}
-use Rattle.willow.specs.Refusals.{Outcome, refused, value}
 use Rattle.range.specs.NumberRanges.{range_of}
 use Rattle.kinds.specs.Kinds.{both, range_from}
 use Rattle.area.specs.declared.Area as code
-use Rattle.area_kinds.specs.declared.AreaRead.{AreaRead}
-use Rattle.area_kinds.specs.declared.AreaRead.TheVariants as one
-use Rattle.area_kinds.specs.declared.AreasRead.{AreasRead}
-use Rattle.area_kinds.specs.declared.AreasRead.TheVariants as two
 
 -- An area but for its path, of which it has the count.
 pub record Parts : Type 0 where
@@ -32,14 +27,9 @@ parts_of k (some x) = some (record { subspace = x.0; count = k; times = x.1 })
 unfoldable pub area_from : ℕ → ℕ → ℕ → ℕ → ℕ → ℕ → Option Parts
 area_from kind id count start end_kind end = parts_of count (both (subspace_from kind id) (range_from start end_kind end))
 
--- What the code's structs and readings mean.
+-- What the code's structs mean, one and two.
 abbrev pub parts : code.Area → Parts
 parts a = record { subspace = a.subspace; count = a.count; times = range_of a.times }
 
-abbrev pub area_read : AreaRead → Outcome Parts
-area_read (one.Refused r) = refused r
-area_read (one.Is a) = value (parts a)
-
-abbrev pub areas_read : AreasRead → Outcome (Parts × Parts)
-areas_read (two.Refused r) = refused r
-areas_read (two.Are a b) = value (parts a, parts b)
+abbrev pub two_parts : code.Area × code.Area → Parts × Parts
+two_parts ab = (parts ab.0, parts ab.1)

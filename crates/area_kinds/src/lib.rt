@@ -1,39 +1,24 @@
 // Areas as a host passes them: the kind of its subspaces and an id, the count of its path, a start, the kind of its end and an end.
-// Refuses 1, then 3.
-#![tactic(auto)]
+// Refuses 1, then 3. The numbers come one by one, as a call for C passes them.
+#![tactic(auto, unfolding(willow::specs::Answers::limits_refusal, kinds::specs::Kinds::on_kinds, crate::specs::AreaKinds::area_from))]
 
-ghost use Rattle.std.specs.Prelude.{◌≡◌};
+ghost use Rattle.std.specs.Prelude.{◌≡◌, IfOk};
+ghost use Rattle.std.proofs.Math.Option.{none, some};
+ghost use Rattle.willow.specs.Answers.{if_any, limits_refusal, outcome_by};
 ghost use Rattle.willow.specs.Refusals.{value};
-ghost use Rattle.kinds.specs.Kinds.{both, of_kinds, on_kinds};
-ghost use Rattle.area_kinds.specs.AreaKinds.{area_from, area_read, areas_read};
+ghost use Rattle.kinds.specs.Kinds.{both, on_kinds};
+ghost use Rattle.area_kinds.specs.AreaKinds.{area_from, parts, two_parts};
 
 use area::Area;
-use kinds::{RangeRead, SubspaceRead};
 use willow::{Limits, Refusal};
 
-#[derive(Clone, Copy)]
-pub enum AreaRead {
-    Refused(Refusal),
-    Is(Area),
-}
-
-#[derive(Clone, Copy)]
-pub enum AreasRead {
-    Refused(Refusal),
-    Are(Area, Area),
-}
-
-// What kinds and numbers stand for, whatever the limits.
-fn read_kinds(kind: u64, id: u64, count: u64, start: u64, end_kind: u64, end: u64) -> AreaRead
-    ensures { area_read result ≡ of_kinds (area_from kind id count start end_kind end) value }
+// What kinds and numbers stand for, whatever the limits; none where a kind is bad.
+fn read_kinds(kind: u64, id: u64, count: u64, start: u64, end_kind: u64, end: u64) -> Option<Area>
+    ensures { if_any parts result ≡ area_from kind id count start end_kind end }
 {
-    match kinds::read_subspace(kind, id) {
-        SubspaceRead::Bad => AreaRead::Refused(Refusal::BadKind),
-        SubspaceRead::Is(subspace) => match kinds::read_range(start, end_kind, end) {
-            RangeRead::Bad => AreaRead::Refused(Refusal::BadKind),
-            RangeRead::Is(times) => AreaRead::Is(area::new(subspace, count, times)),
-        },
-    }
+    let subspace = kinds::read_subspace(kind, id)?;
+    let times = kinds::read_range(start, end_kind, end)?;
+    Some(Area::new(subspace, count, times))
 }
 
 // An area.
@@ -45,13 +30,12 @@ pub fn read_area(
     start: u64,
     end_kind: u64,
     end: u64,
-) -> AreaRead
-    ensures { area_read result ≡ on_kinds limits (area_from kind id count start end_kind end) value }
+) -> Result<Area, Refusal>
+    ensures answer { outcome_by parts result ≡ on_kinds limits (area_from kind id count start end_kind end) value }
+    ensures ok { IfOk result (λ a. (limits_refusal limits ≡ none) × (area_from kind id count start end_kind end ≡ some (parts a))) }
 {
-    if refusals::limits_accepted(limits) {
-        return read_kinds(kind, id, count, start, end_kind, end);
-    }
-    AreaRead::Refused(Refusal::BadLimits)
+    refusals::test_limits(limits)?;
+    read_kinds(kind, id, count, start, end_kind, end).ok_or(Refusal::BadKind)
 }
 
 // Two areas.
@@ -69,14 +53,11 @@ pub fn read_areas(
     start2: u64,
     end_kind2: u64,
     end2: u64,
-) -> AreasRead
-    ensures { areas_read result ≡ on_kinds limits (both (area_from kind id count start end_kind end) (area_from kind2 id2 count2 start2 end_kind2 end2)) value }
+) -> Result<(Area, Area), Refusal>
+    ensures answer { outcome_by two_parts result ≡ on_kinds limits (both (area_from kind id count start end_kind end) (area_from kind2 id2 count2 start2 end_kind2 end2)) value }
+    ensures ok { IfOk result (λ ab. (limits_refusal limits ≡ none) × (both (area_from kind id count start end_kind end) (area_from kind2 id2 count2 start2 end_kind2 end2) ≡ some (two_parts ab))) }
 {
-    match read_area(limits, kind, id, count, start, end_kind, end) {
-        AreaRead::Refused(r) => AreasRead::Refused(r),
-        AreaRead::Is(a) => match read_kinds(kind2, id2, count2, start2, end_kind2, end2) {
-            AreaRead::Refused(r) => AreasRead::Refused(r),
-            AreaRead::Is(b) => AreasRead::Are(a, b),
-        },
-    }
+    let a = read_area(limits, kind, id, count, start, end_kind, end)?;
+    let b = read_kinds(kind2, id2, count2, start2, end_kind2, end2).ok_or(Refusal::BadKind)?;
+    Ok((a, b))
 }

@@ -1,35 +1,30 @@
 -- An insertion as the code goes through it, a law for each way out: what is answered, and the bytes that are left.
-use Prim.Native.Nat.{ℕ, ◌+◌, ◌*◌, ◌≤◌, ◌<◌}
-use mathlib.Core.Path.{◌≡◌, refl, sym, ◌∙◌, ap, subst}
+use Prim.Native.Nat.{ℕ, ◌≤◌, ◌<◌}
+use mathlib.Core.Path.{◌≡◌, refl, sym, ◌∙◌, ap}
 use mathlib.Core.List.{List, [], ◌∷◌, ◌++◌}
 use mathlib.Core.Option.{Option, none, some}
-use mathlib.Core.Bool.{true, false}
+use mathlib.Core.Bool.{true}
 use native.Mathlib.Omega.{arith}
+use lib.ListN.{length}
 use borrow.Author.Tests.{eq-eqb, ne_eqb}
 use Rattle.willow.specs.declared.Limits.{Limits}
 use Rattle.willow.specs.declared.Refusal.{Refusal}
-use Rattle.willow.specs.declared.Refusal.TheVariants.{BadKind, BadSheet, NoRoom}
-use Rattle.willow.specs.declared.Tested.{Tested}
-use Rattle.willow.specs.declared.Tested.TheVariants as tested
-use Rattle.willow.specs.Answers.{tested_refusal, unless, lent_refusal, path_in, path_refusal}
+use Rattle.willow.specs.declared.Refusal.TheVariants.{BadKind, NoRoom}
+use Rattle.willow.specs.Answers.{unless, lent_refusal, path_in, path_refusal}
 use Rattle.willow.specs.Numbers.{Bytes}
-use Rattle.willow.specs.Paths.{path_length}
+use Rattle.willow.specs.Packed.{pack}
 use Rattle.willow.specs.Refusals.{Outcome, refused, value}
 use Rattle.willow.proofs.AnswerLaws.{path_passed, limits_fine}
 use Rattle.willow.proofs.LimitLaws.{limit_laws}
-use Rattle.willow.proofs.PackedLaws.{pack_length, unpack_valid}
+use Rattle.willow.proofs.PackedLaws.{unpack_valid}
 use Rattle.willow.proofs.ValidLaws.{valid_take}
-use Rattle.packed.proofs.PrefixLaws.{front}
-use Rattle.lent_path.proofs.TestLaws.{readable}
 use Rattle.sheet.specs.Cells.{cell_size_of}
-use Rattle.sheet.specs.Rows.{Room}
 use Rattle.sheet.proofs.CellProofs.{cell_room}
 use Rattle.kinds.specs.Kinds.{of_kinds, on_kinds}
-use Rattle.kinds.proofs.KindLaws.{kinds_fine}
+use Rattle.map_law.proofs.AskedKindLaws.{kinds_fine}
 use Rattle.area_kinds.specs.AreaKinds.{Parts, area_with}
-use Rattle.map_form.specs.Maps.{MapSizes, map_shape, Rule, sizes_in, count_in, rules_in}
-use Rattle.map_form.specs.MapTest.{is_map}
-use Rattle.map_form.proofs.MapTestLaws.{Passed, map_passed}
+use Rattle.map_form.specs.Maps.{MapSizes, Rule, sizes_in, count_in, rules_in}
+use Rattle.map_form.specs.MapTest.{is_map, MapPassed}
 use Rattle.map_law.specs.Insertions.{Insertion, parts_in, area_refusal, insert_refusal, insert_answer, insert_leaves, leaves_for, with_rules}
 use Rattle.map_putting.specs.PutRows.{with_row}
 use Rattle.area_map.specs.Putting.{leaves_unless, parts_refusal, area_answer, area_leaves}
@@ -48,84 +43,57 @@ abbrev pub rule_of : Parts → List ℕ → ℕ → Rule
 rule_of a b v = record { area = area_with a (path_in b a.count); value = v }
 
 -- THE PATH. It is packed in no more bytes than a cell has.
-pub path_fits : (L : Limits) (b : List ℕ) (k : ℕ) → Bytes b → path_refusal L b k ≡ none → 8 + 8 * k + path_length (path_in b k) ≤ cell_size_of L
+pub path_fits : (L : Limits) (b : List ℕ) (k : ℕ) → Bytes b → path_refusal L b k ≡ none → length (pack (path_in b k)) ≤ cell_size_of L
 unfolding path_in
-path_fits L b k bytes e =
-    let h = (path_passed L b k e).1 in
-    let v = valid_take L k _ (unpack_valid L b h.formed bytes) in
-    let n = (front b k (readable L b k e)).count in
-    let r = cell_room L _ v in
-    let l = pack_length (path_in b k) in
-    omega arith
+path_fits L b k bytes e = let h = (path_passed L b k e).1 in cell_room L _ (valid_take L k _ (unpack_valid L b h.formed bytes))
 
--- A MAP THAT PASSED ITS TEST, its sizes and its number of rules as they were read.
-module _ (s : List ℕ) (passed : is_map s ≡ true) where
-  pub known : Passed s (sizes_in s) (count_in s)
-  known = (map_passed s).0 passed
-
+-- A MAP THAT PASSED ITS TEST, by the sizes that were read.
+module _ (s : List ℕ) (known : MapPassed s) (z : MapSizes) (same : z ≡ sizes_in s) (a : Parts) (b : List ℕ) (v : ℕ) where
   -- the test of a path with the map's limits is 5 alone
-  five_alone : (L : Limits) → L ≡ (sizes_in s).limits → (b : List ℕ) (k : ℕ) → path_refusal L b k ≡ lent_refusal (sizes_in s).limits b k
+  five_alone : path_refusal z.limits b a.count ≡ lent_refusal (sizes_in s).limits b a.count
   unfolding path_refusal
-  five_alone L e b k = rw (e, limits_fine (sizes_in s).limits known.sizes.limits_accepted)
+  five_alone = rw (same, limits_fine (sizes_in s).limits known.sizes.limits_accepted)
 
-  module _ (L : Limits) (N n : ℕ) (eL : L ≡ (sizes_in s).limits) (eN : N ≡ (sizes_in s).capacity) (en : n ≡ count_in s) where
-    same_sizes : ◌≡◌ {A = MapSizes} (record { limits = L; capacity = N }) (sizes_in s)
-    same_sizes = λ i. record { limits = eL i; capacity = eN i }
+  -- 5
+  pub path_refused : (r : Refusal) → path_refusal z.limits b a.count ≡ some r → AreaCase s a b v (refused r) s
+  unfolding area_answer area_leaves parts_refusal
+  path_refused r e = let f = sym five_alone ∙ e in (rw f, rw f)
 
-    pub room : Room (map_shape (record { limits = L; capacity = N })) s
-    room = subst (λ z. Room (map_shape z) s) (sym same_sizes) known.room
+  module _ (fine : path_refusal z.limits b a.count ≡ none) where
+    lent_fine : lent_refusal (sizes_in s).limits b a.count ≡ none
+    lent_fine = sym five_alone ∙ fine
 
-    pub free : (n ≡ N → ⊥) → n < N
-    free ne = let c = known.sizes.count in omega arith
-
-  module _ (L : Limits) (eL : L ≡ (sizes_in s).limits) (a : Parts) (b : List ℕ) (v : ℕ) where
-    refused_first : (r : Refusal) → lent_refusal (sizes_in s).limits b a.count ≡ some r → AreaCase s a b v (refused r) s
+    -- 14
+    pub no_room_lem : (n : ℕ) → n ≡ count_in s → n ≡ z.capacity → AreaCase s a b v (refused NoRoom) s
     unfolding area_answer area_leaves parts_refusal
-    refused_first r e = (rw e, rw e)
+    no_room_lem n en e =
+        let full = eq-eqb (count_in s) (sizes_in s).capacity (sym en ∙ e ∙ ap (λ y. y.capacity) same) in
+        (rw (lent_fine, full), rw (lent_fine, full))
 
-    -- 5
-    pub path_refused : (t : Tested) (r : Refusal) → tested_refusal t ≡ path_refusal L b a.count → t ≡ tested.Refused r
-        → AreaCase s a b v (refused r) s
-    path_refused t r e f = refused_first r (sym (five_alone L eL b a.count) ∙ sym e ∙ ap tested_refusal f)
-
-    module _ (fine : path_refusal L b a.count ≡ none) where
-      lent_fine : lent_refusal (sizes_in s).limits b a.count ≡ none
-      lent_fine = sym (five_alone L eL b a.count) ∙ fine
-
-      -- 14
-      pub no_room_lem : (N n : ℕ) → N ≡ (sizes_in s).capacity → n ≡ count_in s → n ≡ N → AreaCase s a b v (refused NoRoom) s
-      unfolding area_answer area_leaves parts_refusal
-      no_room_lem N n eN en e =
-          let full = eq-eqb (count_in s) (sizes_in s).capacity (sym en ∙ e ∙ eN) in
-          (rw (lent_fine, full), rw (lent_fine, full))
-
-      -- the rule behind the others
-      module _ (N n : ℕ) (eN : N ≡ (sizes_in s).capacity) (en : n ≡ count_in s) (ne : n ≡ N → ⊥) where
-        pub taken : Bytes s → Bytes b → (t : List ℕ) → t ≡ with_row (record { limits = L; capacity = N }) s n (rule_of a b v) → AreaCase s a b v (value n) t
-        unfolding area_answer area_leaves parts_refusal
-        taken bytes path_bytes t e =
-            let other = ne_eqb (count_in s) (sizes_in s).capacity (λ f. ne (en ∙ f ∙ sym eN)) in
-            let f = free L N n eL eN en ne in
-            let l = pack_length (path_in b a.count) in
-            let k = (front b a.count (readable L b a.count fine)).count in
-            let p : 8 + 8 * a.count + path_length (path_in b a.count) ≤ cell_size_of (sizes_in s).limits =
-            rw eL at (path_fits L b a.count path_bytes fine) in
-            let added = rule_added s bytes passed (rule_of a b v) (rw (← eN, ← en) f) (omega arith) in (
-              rw (lent_fine, other) (ap value en),
-              rw (lent_fine, other) (e ∙ ap (λ z. with_row z s n (rule_of a b v)) (same_sizes L N n eL eN en) ∙ ap (λ k. with_row (sizes_in s) s k (rule_of a b v)) en ∙ added),
-            )
+    -- the rule behind the others
+    pub taken : (n : ℕ) → n ≡ count_in s → (n ≡ z.capacity → ⊥) → Bytes s → Bytes b
+        → (t : List ℕ) → t ≡ with_row z s n (rule_of a b v) → AreaCase s a b v (value n) t
+    unfolding area_answer area_leaves parts_refusal
+    taken n en ne bytes path_bytes t e =
+        let other = ne_eqb (count_in s) (sizes_in s).capacity (λ f. ne (en ∙ f ∙ sym (ap (λ y. y.capacity) same))) in
+        let free : count_in s < (sizes_in s).capacity = let w = known.sizes.count in let f = ap (λ y. y.capacity) same in omega arith in
+        let fits : length (pack (path_in b a.count)) ≤ cell_size_of (sizes_in s).limits = rw same at (path_fits z.limits b a.count path_bytes fine) in
+        let added = rule_added s bytes known.tested (rule_of a b v) free fits in (
+          rw (lent_fine, other) (ap value en),
+          rw (lent_fine, other) (e ∙ ap (λ y. with_row y s n (rule_of a b v)) same ∙ ap (λ k. with_row (sizes_in s) s k (rule_of a b v)) en ∙ added),
+        )
 
 -- THE WHOLE CALL. 2, where the test fails:
-pub not_a_map : (s : List ℕ) (x : Insertion) → is_map s ≡ false → InsertCase s x (refused BadSheet) s
-unfolding insert_answer insert_leaves insert_refusal area_refusal
-not_a_map s x e = (rw e, rw e)
 
-module _ (s : List ℕ) (x : Insertion) (passed : is_map s ≡ true) (L : Limits) (eL : L ≡ (sizes_in s).limits) where
-  three_alone : on_kinds L (parts_in x.area) value ≡ of_kinds (parts_in x.area) value
-  three_alone = kinds_fine L (parts_in x.area) value ((limit_laws.limits_means L).1 (rw eL (known s passed).sizes.limits_accepted))
+module _ (s : List ℕ) (x : Insertion) (known : MapPassed s) (z : MapSizes) (same : z ≡ sizes_in s) where
+  passed : is_map s ≡ true
+  passed = known.tested
+
+  three_alone : on_kinds z.limits (parts_in x.area) value ≡ of_kinds (parts_in x.area) value
+  three_alone = kinds_fine z.limits (parts_in x.area) value ((limit_laws.limits_means z.limits).1 (rw same known.sizes.limits_accepted))
 
   -- 3
-  pub kinds_refused : (r : Refusal) → refused r ≡ on_kinds L (parts_in x.area) value → InsertCase s x (refused r) s
+  pub kinds_refused : (r : Refusal) → refused r ≡ on_kinds z.limits (parts_in x.area) value → InsertCase s x (refused r) s
   unfolding insert_answer insert_leaves insert_refusal area_refusal
   kinds_refused r e = go (parts_in x.area) refl (e ∙ three_alone)
     where
@@ -134,7 +102,7 @@ module _ (s : List ℕ) (x : Insertion) (passed : is_map s ≡ true) (L : Limits
       go (some a) f g = absurd (let z : ◌≡◌ {A = ℕ} 0 1 = cc in omega arith)
 
   -- else as its parts are answered
-  module _ (a : Parts) (e : value a ≡ on_kinds L (parts_in x.area) value) where
+  module _ (a : Parts) (e : value a ≡ on_kinds z.limits (parts_in x.area) value) where
     parts_read : parts_in x.area ≡ some a
     parts_read = go (parts_in x.area) (e ∙ three_alone)
       where

@@ -1,2 +1,1 @@
 pub mod InterestLaws
-pub mod LentInterestLaws

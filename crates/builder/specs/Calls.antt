@@ -1,6 +1,6 @@
 -- What the builder's calls answer and leave. The numbers of the struct that they take are a state, and what is refused of a state
 -- and what an append leaves in the buffer are said in builder_law/specs/Building.antt.
-use Rattle.std.specs.Prelude.{ℕ, ◌+◌, ◌≡◌, List}
+use Rattle.std.specs.Prelude.{ℕ, ◌+◌, ◌≡◌, List, Result, Ok, Err}
 use Rattle.std.proofs.Math.Option.{Option, none, some}
 use Rattle.willow.specs.declared.Limits.{Limits}
 use Rattle.willow.specs.declared.Refusal.{Refusal}
@@ -8,35 +8,25 @@ use Rattle.willow.specs.Paths.{Component}
 use Rattle.willow.specs.Refusals.{Outcome, refused, value}
 use Rattle.builder_law.specs.Building as law
 use Rattle.builder.specs.declared.Builder.{Builder}
-use Rattle.builder.specs.declared.Started.{Started}
-use Rattle.builder.specs.declared.Started.TheVariants as started
-use Rattle.builder.specs.declared.Appended.{Appended}
-use Rattle.builder.specs.declared.Appended.TheVariants as appended
-use Rattle.builder.specs.declared.Built.{Built}
-use Rattle.builder.specs.declared.Built.TheVariants as built
+use Rattle.builder.specs.declared.Rejected.{Rejected}
 
--- WHAT THE CASES OF THE ANSWERS MEAN. A start gives a state or is refused.
-abbrev pub started_outcome : Started → Outcome Builder
-started_outcome (started.Refused r) = refused r
-started_outcome (started.Ready s) = value s
+-- WHAT THE ANSWERS MEAN. An append hands a state back, refused or not.
+abbrev pub appended_refusal : Result Builder Rejected → Option Refusal
+appended_refusal (Err e) = some e.refusal
+appended_refusal (Ok s) = none
 
--- An append hands a state back, refused or not.
-abbrev pub appended_refusal : Appended → Option Refusal
-appended_refusal (appended.Refused r s) = some r
-appended_refusal (appended.Grown s) = none
-
-abbrev pub appended_state : Appended → Builder
-appended_state (appended.Refused r s) = s
-appended_state (appended.Grown s) = s
+abbrev pub appended_state : Result Builder Rejected → Builder
+appended_state (Err e) = e.builder
+appended_state (Ok s) = s
 
 -- A build gives the length of the path that stands at the front of the buffer; where it is refused the state comes back.
-abbrev pub built_outcome : Built → Outcome ℕ
-built_outcome (built.Refused r s) = refused r
-built_outcome (built.Path n) = value n
+abbrev pub built_outcome : Result ℕ Rejected → Outcome ℕ
+built_outcome (Err e) = refused e.refusal
+built_outcome (Ok n) = value n
 
-abbrev pub built_state : Built → Option Builder
-built_state (built.Refused r s) = some s
-built_state (built.Path n) = none
+abbrev pub built_state : Result ℕ Rejected → Option Builder
+built_state (Err e) = some e.builder
+built_state (Ok n) = none
 
 -- A state handed back with a refusal, and none with an answer.
 abbrev pub kept_state : Option Refusal → Builder → Option Builder

@@ -1,5 +1,4 @@
--- The refusals of the builder's calls, one law for each way out of the code that tests them, and what is known of a call that
--- was not refused.
+-- The builder's calls: that what is sound is not refused, and what is known of a call that was not refused.
 use Prim.Native.Nat.{ℕ, ◌+◌, ◌-◌, ◌*◌, ◌≤◌, ◌<◌}
 use mathlib.Core.Path.{◌≡◌, refl, sym, ◌∙◌, ap}
 use mathlib.Core.List.{List}
@@ -8,10 +7,10 @@ use mathlib.Core.Bool.{true, false, ◌&&◌, ◌||◌, cond}
 use native.Mathlib.Omega.{arith}
 use lib.Dec.{ltb, eqb}
 use lib.ListN.{length}
-use borrow.Author.Tests.{lt-ltb, le-ltb, eq-eqb, ne_eqb, ltb-false, leb-true}
+use borrow.Author.Tests.{le-ltb, ltb-false, leb-true}
 use Rattle.willow.specs.declared.Limits.{Limits}
 use Rattle.willow.specs.declared.Refusal.{Refusal}
-use Rattle.willow.specs.declared.Refusal.TheVariants.{BadLimits, ComponentTooLong, NoSuchPrefix, Overfilled, Unfinished, OutTooSmall}
+use Rattle.willow.specs.declared.Refusal.TheVariants.{ComponentTooLong, NoSuchPrefix, Overfilled, Unfinished, OutTooSmall}
 use Rattle.willow.specs.Answers.{or_else, limits_refusal, path_refusal, path_in}
 use Rattle.willow.specs.Limits.{accepted_limits}
 use Rattle.willow.specs.Paths.{Component, path_length}
@@ -21,7 +20,7 @@ use Rattle.packed.specs.Readable.{Readable}
 use Rattle.lent_path.proofs.LentLaws.{readable_prefix}
 use Rattle.lent_path.proofs.TestLaws.{readable}
 use Rattle.builder_parts.specs.Buffer.{size_of, Next}
-use Rattle.builder_law.specs.Building.{State, declared_size, limits_of, appended_path, long_enough, declared_refusal, room_refusal, state_refusal, known_length, overfilled, length_short, unfinished, state_of, new_refusal, prefix_refusal, append_refusal, build_refusal}
+use Rattle.builder_law.specs.Building.{State, limits_of, appended_path, long_enough, declared_refusal, room_refusal, state_refusal, known_length, overfilled, length_short, unfinished, state_of, new_refusal, prefix_refusal, append_refusal, build_refusal}
 use Rattle.builder_law.proofs.StateLaws.{not_if, not_unless, room_there, table_room, sound, known_read, known_within}
 
 -- 11 AND 15, passed.
@@ -35,10 +34,6 @@ room_passed s out e = not_unless (long_enough s out) OutTooSmall e
 
 -- A START: 1, 7, 8, 15.
 module _ (s : State) (out : List ℕ) where
-  pub start_limits : accepted_limits (limits_of s) ≡ false → some BadLimits ≡ new_refusal (limits_of s) s.length s.count out
-  unfolding new_refusal limits_refusal
-  start_limits h = rw h
-
   module _ (fine : accepted_limits (limits_of s) ≡ true) where
     pub start_tested : or_else (declared_refusal s) (room_refusal s out) ≡ new_refusal (limits_of s) s.length s.count out
     unfolding new_refusal limits_refusal
@@ -47,9 +42,6 @@ module _ (s : State) (out : List ℕ) where
     module _ (declared : declared_refusal s ≡ none) where
       pub start_fine : long_enough s out ≡ true → none ≡ new_refusal (limits_of s) s.length s.count out
       start_fine h = rw (← start_tested, declared, h)
-
-      pub start_room : long_enough s out ≡ false → some OutTooSmall ≡ new_refusal (limits_of s) s.length s.count out
-      start_room h = rw (← start_tested, declared, h)
 
 -- what a start that was not refused says
 pub record StartKnown (s : State) (out : List ℕ) : Type 0 where
@@ -83,42 +75,15 @@ module _ (s : State) (b : List ℕ) (k : ℕ) (out : List ℕ) where
     prefix_declared = rw (← prefix_tested, path)
 
     module _ (declared : declared_refusal s ≡ none) where
-      pub prefix_missing : k < s.appended → some NoSuchPrefix ≡ refusal
-      prefix_missing h = rw (← prefix_declared, declared, lt-ltb k s.appended h)
-
       module _ (there : s.appended ≤ k) where
         -- the prefix can be read
         pub prefix_readable : Readable b s.appended
         prefix_readable = readable_prefix b k s.appended (readable (limits_of s) b k path) there
 
-        pub prefix_many : s.count < s.appended → some Overfilled ≡ refusal
-        prefix_many h = rw (← prefix_declared, declared, le-ltb k s.appended there, lt-ltb s.count (0 + s.appended) (omega arith))
-
         module _ (few : s.appended ≤ s.count) (len : ℕ) (e : len ≡ path_length (path_in b s.appended)) where
-          pub prefix_long : s.length < len → some Overfilled ≡ refusal
-          prefix_long h =
-              rw (
-                ← prefix_declared,
-                declared,
-                le-ltb k s.appended there,
-                le-ltb s.count (0 + s.appended) (omega arith),
-                lt-ltb s.length (0 + path_length (path_in b s.appended)) (omega arith),
-              )
-
           module _ (short : len ≤ s.length) where
             pub prefix_fine : long_enough s out ≡ true → none ≡ refusal
             prefix_fine h =
-                rw (
-                  ← prefix_declared,
-                  declared,
-                  le-ltb k s.appended there,
-                  le-ltb s.count (0 + s.appended) (omega arith),
-                  le-ltb s.length (0 + path_length (path_in b s.appended)) (omega arith),
-                  h,
-                )
-
-            pub prefix_room : long_enough s out ≡ false → some OutTooSmall ≡ refusal
-            prefix_room h =
                 rw (
                   ← prefix_declared,
                   declared,
@@ -172,34 +137,14 @@ module _ (s : State) (c : Component) (out : List ℕ) where
   append_tested = refl
 
   module _ (state : state_refusal s out ≡ none) where
-    pub append_wide : s.mcl < length c → some ComponentTooLong ≡ append_refusal s c out
-    append_wide h = rw (← append_tested, state, lt-ltb s.mcl (length c) h)
-
     module _ (narrow : length c ≤ s.mcl) where
-      pub append_many : s.count ≤ s.appended → some Overfilled ≡ append_refusal s c out
-      append_many h = rw (← append_tested, state, le-ltb s.mcl (length c) narrow, lt-ltb s.count (s.appended + 1) (omega arith))
-
       module _ (few : s.appended < s.count) (n : ℕ) (e : n ≡ known_length s out) where
-        pub append_long : s.length - n < length c → some Overfilled ≡ append_refusal s c out
-        append_long h =
-            rw (
-              ← append_tested,
-              state,
-              le-ltb s.mcl (length c) narrow,
-              le-ltb s.count (s.appended + 1) (omega arith),
-              lt-ltb s.length (known_length s out + length c) (omega arith),
-            )
-
         module _ (short : length c ≤ s.length - n) where
           fits : ltb s.length (known_length s out + length c) ≡ false
           fits = let w = known_within s out state in le-ltb s.length (known_length s out + length c) (omega arith)
 
           pub append_fine : long_enough s out ≡ true → none ≡ append_refusal s c out
           append_fine h =
-              rw (← append_tested, state, le-ltb s.mcl (length c) narrow, le-ltb s.count (s.appended + 1) (omega arith), fits, h)
-
-          pub append_room : long_enough s out ≡ false → some OutTooSmall ≡ append_refusal s c out
-          append_room h =
               rw (← append_tested, state, le-ltb s.mcl (length c) narrow, le-ltb s.count (s.appended + 1) (omega arith), fits, h)
 
   -- what an append says that was not refused
@@ -254,30 +199,12 @@ module _ (s : State) (out : List ℕ) where
   build_tested = refl
 
   module _ (state : state_refusal s out ≡ none) where
-    pub build_count : s.appended < s.count → some Unfinished ≡ build_refusal s out
-    build_count h = rw (← build_tested, state, lt-ltb s.appended s.count h)
-
     module _ (all : s.count ≤ s.appended) where
       module _ (long : long_enough s out ≡ true) (n : ℕ) (e : n ≡ known_length s out) where
-        pub build_length : n < s.length → some Unfinished ≡ build_refusal s out
-        build_length h =
-            let k = known_read s out long in
-            rw (← build_tested, state, le-ltb s.appended s.count all, short_read long, long, lt-ltb (path_length (appended_path s out)) s.length (omega arith))
-
         pub build_fine : s.length ≤ n → none ≡ build_refusal s out
         build_fine h =
             let k = known_read s out long in
             rw (← build_tested, state, le-ltb s.appended s.count all, short_read long, long, le-ltb (path_length (appended_path s out)) s.length (omega arith))
-
-      module _ (short : long_enough s out ≡ false) where
-        pub build-nothing : s.appended ≡ 0 → 0 < s.length → some Unfinished ≡ build_refusal s out
-        build-nothing h k = rw (← build_tested, state, le-ltb s.appended s.count all, short_unread short, short, eq-eqb s.appended 0 h, lt-ltb 0 s.length k)
-
-        pub build-empty : s.appended ≡ 0 → s.length ≤ 0 → some OutTooSmall ≡ build_refusal s out
-        build-empty h k = rw (← build_tested, state, le-ltb s.appended s.count all, short_unread short, short, eq-eqb s.appended 0 h, le-ltb 0 s.length k)
-
-        pub build_room : (s.appended ≡ 0 → ⊥) → some OutTooSmall ≡ build_refusal s out
-        build_room h = rw (← build_tested, state, le-ltb s.appended s.count all, short_unread short, short, ne_eqb s.appended 0 h)
 
   -- what a build says that was not refused
   pub record BuildKnown : Type 0 where
@@ -298,7 +225,3 @@ module _ (s : State) (out : List ℕ) where
 
   pub build_passed : build_refusal s out ≡ none → 8 + 8 * s.count + s.length ≤ length out
   build_passed e = room_there s out (build_known e).long
-
-pub size_is : (s : State) → 8 + 8 * s.count + s.length ≡ declared_size s
-unfolding size_of
-size_is s = refl

@@ -1,19 +1,16 @@
--- The tests of a state and the buffer beside it: one law for each way out of the code that makes them, and what is known of a
--- state that passed.
-use Prim.Native.Nat.{ℕ, ◌+◌, ◌*◌, ◌≤◌, ◌<◌}
-use mathlib.Core.Path.{◌≡◌, refl, sym, ◌∙◌, ap}
+-- The tests of a state and the buffer beside it: that what is sound passes, and what is known of a state that passed.
+use Prim.Native.Nat.{ℕ, ◌+◌, ◌*◌, ◌≤◌}
+use mathlib.Core.Path.{◌≡◌, refl, sym, ◌∙◌}
 use mathlib.Core.List.{List}
-use mathlib.Core.Option.{Option, none, some}
+use mathlib.Core.Option.{none, some}
 use mathlib.Core.Bool.{Bool, true, false, ◌&&◌, not, cond}
 use native.Mathlib.Omega.{arith}
 use lib.Dec.{ltb}
 use lib.ListN.{length}
-use borrow.Author.Tests.{lt-ltb, le-ltb, ltb-false, leb-true}
+use borrow.Author.Tests.{le-ltb, ltb-false, leb-true}
 use Rattle.willow.specs.declared.Refusal.{Refusal}
-use Rattle.willow.specs.declared.Refusal.TheVariants.{BadLimits, BadPath, PathTooLong, TooManyComponents}
-use Rattle.willow.specs.declared.Tested.{Tested}
-use Rattle.willow.specs.declared.Tested.TheVariants as tested
-use Rattle.willow.specs.Answers.{tested_refusal, or_else, limits_refusal}
+use Rattle.willow.specs.declared.Refusal.TheVariants.{BadPath, PathTooLong, TooManyComponents}
+use Rattle.willow.specs.Answers.{or_else, limits_refusal}
 use Rattle.willow.specs.Limits.{Accepted, accepted_limits}
 use Rattle.willow.specs.Packed.{length_before}
 use Rattle.willow.specs.Paths.{path_length}
@@ -21,13 +18,6 @@ use Rattle.willow.proofs.AnswerLaws.{limits_passed, or_else_none}
 use Rattle.builder_parts.specs.Buffer.{size_of}
 use Rattle.builder_parts.proofs.BufferLaws.{Known, known}
 use Rattle.builder_law.specs.Building.{State, limits_of, agrees, appended_path, long_enough, declared_refusal, buffer_refusal, state_refusal, known_length}
-
--- A TEST WITHIN A CHAIN OF TESTS. What it refuses is handed on; what it passes goes on to the next.
-pub handed_on : (a b : Option Refusal) (t : Tested) (r : Refusal) → tested_refusal t ≡ a → t ≡ tested.Refused r → tested_refusal t ≡ or_else a b
-handed_on a b t r e h = let g : a ≡ some r = sym e ∙ ap tested_refusal h in rw g (ap tested_refusal h)
-
-pub passed_on : (a : Option Refusal) (t : Tested) → tested_refusal t ≡ a → t ≡ tested.Fine → a ≡ none
-passed_on a t e h = sym e ∙ ap tested_refusal h
 
 -- a refusal under a test was not given
 pub not_if : (t : Bool) (r : Refusal) → cond t (some r) none ≡ none → t ≡ false
@@ -40,13 +30,7 @@ not_unless false r e = cc
 
 -- 7 AND 8.
 module _ (s : State) where
-  pub declared_long : s.mpl < s.length → some PathTooLong ≡ declared_refusal s
-  declared_long h = rw (lt-ltb s.mpl s.length h)
-
   module _ (short : s.length ≤ s.mpl) where
-    pub declared_many : s.mcc < s.count → some TooManyComponents ≡ declared_refusal s
-    declared_many h = rw (le-ltb s.mpl s.length short, lt-ltb s.mcc s.count h)
-
     pub declared_fine : s.count ≤ s.mcc → none ≡ declared_refusal s
     declared_fine h = rw (le-ltb s.mpl s.length short, le-ltb s.mcc s.count h)
 
@@ -69,19 +53,7 @@ module _ (s : State) (out : List ℕ) where
   pub table_room : long_enough s out ≡ true → 8 + 8 * s.count ≤ length out
   table_room h = let r = room_there h in omega arith
 
-  pub state_limits : accepted_limits (limits_of s) ≡ false → some BadLimits ≡ state_refusal s out
-  unfolding state_refusal limits_refusal
-  state_limits h = rw h
-
   module _ (fine : accepted_limits (limits_of s) ≡ true) where
-    pub state_short : long_enough s out ≡ false → state_refusal s out ≡ declared_refusal s
-    unfolding state_refusal limits_refusal
-    state_short h = rw (fine, h)
-
-    pub state_wrong : long_enough s out ≡ true → agrees s out ≡ false → some BadPath ≡ state_refusal s out
-    unfolding state_refusal limits_refusal
-    state_wrong h k = rw (fine, h, k)
-
     pub state_right : long_enough s out ≡ true → agrees s out ≡ true → state_refusal s out ≡ declared_refusal s
     unfolding state_refusal limits_refusal
     state_right h k = rw (fine, h, k)

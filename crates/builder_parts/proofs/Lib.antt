@@ -1,3 +1,2 @@
-pub mod StepLaws
 pub mod BufferLaws
 pub mod WriteLaws

@@ -5,18 +5,15 @@ use mathlib.Core.Path.{◌≡◌, sym, ◌∙◌, ap}
 use mathlib.Core.List.{List, [], ◌∷◌, ◌++◌, append_assoc, append-nil}
 use native.Mathlib.Omega.{arith}
 use lib.ListN.{length, take, drop, length-append, length-take, length-drop, take-append-drop}
-use lib.Seq.{take_at, drop_at, drop-drop}
+use lib.Seq.{drop-drop}
 use Rattle.number.specs.Overwriting.{overwrite, zeros}
 use Rattle.number.proofs.OverwritingLaws.{overwrite_seam, overwrite_at_front, written_on, length_zeros, take_zeros, drop_zeros}
-use Rattle.willow.specs.Answers.{path_in}
 use Rattle.willow.specs.Numbers.{Bytes, le}
-use Rattle.willow.specs.Packed.{accumulated, joined, packed_count, length_before, widest}
+use Rattle.willow.specs.Packed.{accumulated, joined, length_before}
 use Rattle.willow.specs.Paths.{Component, Path, path_length}
 use Rattle.willow.proofs.NumberLaws.{le_length}
-use Rattle.willow.proofs.PackedLaws.{accumulated_length, joined_length, pack_table}
-use Rattle.willow.proofs.PackedPlaces.{accumulated_append, joined_append, prefix_packed}
-use Rattle.packed.specs.Readable.{Readable}
-use Rattle.packed.proofs.PrefixLaws.{front}
+use Rattle.willow.proofs.PackedLaws.{accumulated_length, joined_length}
+use Rattle.willow.proofs.PackedPlaces.{accumulated_append, joined_append}
 use Rattle.builder_parts.specs.Buffer.{size_of, partial, components_in, Next}
 use Rattle.builder_parts.proofs.BufferLaws.{partial_length, rest, front_whole, known, agrees_begins}
 
@@ -30,68 +27,41 @@ start_written count out first last h x y =
     written_on out (le 8 count) (zeros (8 * count)) first last 0 8 (omega arith) (omega arith) x y
     ∙ rw (z, append-nil (zeros (8 * count)))
 
--- A PREFIX: the count, the front of the table, zeros for the lengths to come, and the front of the bytes, as the code cuts them
--- out. m is the count in the reference, len the bytes of the prefix.
-module _ (count : ℕ) (b : List ℕ) (n : ℕ) (r : Readable b n) (bs : Bytes b) (m len : ℕ) (em : m ≡ packed_count b) (el : len ≡ path_length (path_in b n)) where
-  abbrev table : List ℕ
-  table = take (8 + 8 * n - 8) (drop 8 b)
+-- A PREFIX: the count, its table, zeros for the lengths to come, and its bytes.
+module _ (count : ℕ) (p : Path) (table bytes : List ℕ) (et : table ≡ accumulated 0 p) (eb : bytes ≡ joined p) (few : length p ≤ count) where
+  pub table_size : length table ≡ 8 * length p
+  table_size = ap length et ∙ accumulated_length 0 p
+
+  pub bytes_size : length bytes ≡ path_length p
+  bytes_size = ap length eb ∙ joined_length p
 
   abbrev blank : List ℕ
-  blank = zeros (8 + 8 * count - (8 + 8 * n))
+  blank = zeros (8 + 8 * count - (8 + length table))
 
-  abbrev bytes : List ℕ
-  bytes = take (8 + 8 * m + len - (8 + 8 * m)) (drop (8 + 8 * m) b)
-
-  table_size : length table ≡ 8 * n
-  table_size = let f = front b n r in simp (length-take, length-drop) (omega arith)
-
-  -- together the table and the bytes of the prefix
-  both_parts : accumulated 0 (path_in b n) ++ joined (path_in b n) ≡ table ++ bytes
-  unfolding path_in
-  both_parts =
-      let f = (front b n r).bytes in
-      let z : 8 + 8 * n - 8 ≡ 8 * n = omega arith in
-      let w : 8 + 8 * m + len - (8 + 8 * m) ≡ length_before b n = omega arith in
-      sym (pack_table (path_in b n))
-      ∙ ap (drop 8) (prefix_packed widest b n r.packed bs r.within)
-      ∙ drop_at (le 8 n) _ 8 (le_length 8 n)
-      ∙ rw (z, w, em)
-
-  table_is : table ≡ accumulated 0 (path_in b n)
-  table_is =
-      let f = (front b n r).count in
-      let l = accumulated_length 0 (path_in b n) in
-      sym (take_at table bytes (8 * n) table_size) ∙ ap (take (8 * n)) (sym both_parts) ∙ take_at (accumulated 0 (path_in b n)) (joined (path_in b n)) (8 * n) (omega arith)
-
-  bytes_is : bytes ≡ joined (path_in b n)
-  bytes_is =
-      let f = (front b n r).count in
-      let l = accumulated_length 0 (path_in b n) in
-      sym (drop_at table bytes (8 * n) table_size) ∙ ap (drop (8 * n)) (sym both_parts) ∙ drop_at (accumulated 0 (path_in b n)) (joined (path_in b n)) (8 * n) (omega arith)
-
-  prefix_partial : n ≤ count → partial count (path_in b n) ≡ le 8 count ++ (table ++ (blank ++ bytes))
+  prefix_partial : partial count p ≡ le 8 count ++ (table ++ (blank ++ bytes))
   unfolding partial
-  prefix_partial h =
-      let f = (front b n r).count in
-      let z : 8 + 8 * count - (8 + 8 * n) ≡ 8 * (count - n) = omega arith in
-      rw (f, ← table_is, ← bytes_is, z)
+  prefix_partial =
+      let t = table_size in
+      let z : 8 + 8 * count - (8 + length table) ≡ 8 * (count - length p) = omega arith in
+      rw (z, et, eb)
 
-  pub prefix_written : (out first second third last : List ℕ) → n ≤ count → 8 + 8 * count + path_length (path_in b n) ≤ length out
+  pub prefix_written : (out first second third last : List ℕ) → 8 + 8 * count + path_length p ≤ length out
       → first ≡ overwrite out 0 (le 8 count)
       → second ≡ overwrite first 8 table
-      → third ≡ overwrite second (8 + 8 * n) blank
+      → third ≡ overwrite second (8 + length table) blank
       → last ≡ overwrite third (8 + 8 * count) bytes
-      → last ≡ overwrite out 0 (partial count (path_in b n))
-  prefix_written out first second third last h k w₁ w₂ w₃ w₄ =
+      → last ≡ overwrite out 0 (partial count p)
+  prefix_written out first second third last k w₁ w₂ w₃ w₄ =
       let l₁ = le_length 8 count in
       let l₂ = length-append (le 8 count) table in
       let l₃ = length-append (le 8 count ++ table) blank in
       let t = table_size in
-      let z = length_zeros (8 + 8 * count - (8 + 8 * n)) in
+      let b = bytes_size in
+      let z = length_zeros (8 + 8 * count - (8 + length table)) in
       let v₂ = written_on out (le 8 count) table first second 0 8 (omega arith) (omega arith) w₁ w₂ in
-      let v₃ = written_on out (le 8 count ++ table) blank second third 0 (8 + 8 * n) (omega arith) (omega arith) v₂ w₃ in
+      let v₃ = written_on out (le 8 count ++ table) blank second third 0 (8 + length table) (omega arith) (omega arith) v₂ w₃ in
       let v₄ = written_on out (le 8 count ++ table ++ blank) bytes third last 0 (8 + 8 * count) (omega arith) (omega arith) v₃ w₄ in
-      v₄ ∙ ap (overwrite out 0) (sym (prefix_partial h ∙ simp append_assoc))
+      v₄ ∙ ap (overwrite out 0) (sym (prefix_partial ∙ simp append_assoc))
 
 -- THE NEXT COMPONENT. What is known of the buffer that it is written into:
 pub record NextKnown (count appended : ℕ) (c out : List ℕ) : Type 0 where

@@ -1,18 +1,11 @@
 -- What the constructing calls make, each by the rules of `from_slices` (willow/specs/Construction.antt).
 use Rattle.std.specs.Prelude.{ℕ, List, [], ◌∷◌, cond, eqb, length}
-use Rattle.std.proofs.Math.Option.{Option, none, some}
 use Rattle.willow.specs.declared.Limits.{Limits}
-use Rattle.willow.specs.declared.Refusal.{Refusal}
 use Rattle.willow.specs.declared.Refusal.TheVariants.{BadLengths}
 use Rattle.willow.specs.Answers.{unless, limits_refusal}
 use Rattle.willow.specs.Construction.{admitted, from_slices, append, append_slice}
 use Rattle.willow.specs.Paths.{Component, Path}
-use Rattle.willow.specs.Refusals.{Outcome, refused, absent, value}
-
--- The outcome of a refusal that is handed on.
-abbrev pub refused_as : Option Refusal → Outcome ℕ
-refused_as (some r) = refused r
-refused_as none = absent
+use Rattle.willow.specs.Refusals.{Outcome, refused, value}
 
 -- 1 first, of limits that are passed as numbers.
 unfoldable pub under_limits : {A : Type 0} → Limits → Outcome A → Outcome A

@@ -1,6 +1,7 @@
 -- What an exported call returns: numbers alone, "status first". 0 says that there is an answer, the number of a refusal (1 to
 -- 63) that the call was refused, 255 that there is none; the value behind it is 0 unless there is an answer.
 use Rattle.std.specs.Prelude.{ℕ, Bool, true, false}
+use Rattle.std.specs.Prelude as code
 use Rattle.std.proofs.Math.Option.{Option, none, some}
 use Rattle.willow.specs.declared.Limits.{Limits}
 use Rattle.willow.specs.declared.Refusal.{Refusal}
@@ -18,6 +19,12 @@ abbrev pub given : {A : Type 0} → (A → ℕ) → Outcome A → Answer
 given number (refused r) = record { status = refusal_number r; value = 0 }
 given number absent = record { status = none_status; value = 0 }
 given number (value x) = record { status = answered_status; value = number x }
+
+-- What there may not be: it, or the status that says why it is not there.
+abbrev pub value_or_status : {A : Type 0} → code.Result (code.Option A) Refusal → code.Result A ℕ
+value_or_status (code.Err r) = code.Err (refusal_number r)
+value_or_status (code.Ok code.None) = code.Err none_status
+value_or_status (code.Ok (code.Some x)) = code.Ok x
 
 -- A number stands for itself; no is 0 and yes is 1.
 abbrev pub itself : ℕ → ℕ

@@ -1,10 +1,11 @@
-// Entries (entry.rs). An entry is its namespace, its head and its path, which is lent as a buffer with a count beside it. The
-// questions on entries are the calls of crate `entry_questions`.
+// Entries (entry.rs). An entry is its namespace, its head and its path, which is lent and was tested. The questions on entries are the
+// calls of crate `entry_questions`.
 #![tactic(auto)]
 
-pub mod inner;
+pub mod entries;
+pub mod heads;
 
-ghost use Rattle.std.specs.Prelude.{◌≡◌};
+use packed::lent::LentPath;
 
 // What an entry has beside its namespace and its path.
 #[derive(Clone, Copy)]
@@ -15,15 +16,10 @@ pub struct Head {
     pub digest: [u8; 32],
 }
 
-// The head of an entry, from its parts.
-pub fn new(subspace: u64, timestamp: u64, payload_length: u64, digest: &[u8; 32]) -> Head
-    ensures { result ≡ record { subspace = subspace; timestamp = timestamp; payload_length = payload_length; digest = digest.now } }
-{
-    let d = *digest;
-    Head {
-        subspace,
-        timestamp,
-        payload_length,
-        digest: d,
-    }
+// An entry, whose path was tested.
+#[derive(Clone, Copy)]
+pub struct LentEntry<'a> {
+    pub namespace: u64,
+    pub head: Head,
+    pub path: LentPath<'a>,
 }

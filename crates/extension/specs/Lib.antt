@@ -1,1 +1,2 @@
 pub mod Extending
+pub mod ExtendedPaths

@@ -1,29 +1,24 @@
 -- The greatest path by its parts: it has MCC components, its bytes are all ff, and how many they are. Its packed form is then
 -- three writes, each from where the one before it ended: the count, the accumulated lengths, the bytes.
-use Prim.Native.Nat.{ℕ, zero, suc, ◌+◌, ◌-◌, ◌*◌, ◌≤◌, ◌<◌, min}
+use Prim.Native.Nat.{ℕ, zero, suc, ◌+◌, ◌-◌, ◌*◌, ◌≤◌, min}
 use mathlib.Core.Path.{◌≡◌, refl, sym, ◌∙◌, ap}
 use mathlib.Core.List.{List, ◌++◌, append_assoc}
-use mathlib.Core.Bool.{true, false}
+use mathlib.Core.Bool.{true}
 use native.Mathlib.Omega.{arith}
-use native.Mathlib.Nat.{mul-zero, mul-suc}
-use lib.ListN.{length, replicate, length-append, length-replicate, replicate-append-replicate}
-use borrow.Author.Tests.{le-leb, lt-leb}
+use native.Mathlib.Nat.{mul-le-mul, mul-zero, mul-suc}
+use lib.ListN.{length, take, drop, replicate, length-append, length-replicate, replicate-append-replicate}
+use borrow.Rule.Slice.PartMut.{put_mid}
 use Rattle.willow.specs.declared.Limits.{Limits}
-use Rattle.willow.specs.declared.Refusal.TheVariants.{BadLimits, OutTooSmall}
-use Rattle.willow.specs.Answers.{limits_refusal, packed_outcome, written_buffer, written_length}
 use Rattle.willow.specs.LeastPaths.{filled, greatest}
-use Rattle.willow.specs.Limits.{accepted_limits}
+use Rattle.willow.specs.Limits.{accepted_limits, max_mcc, max_mcl, max_mpl}
 use Rattle.willow.specs.Numbers.{le}
 use Rattle.willow.specs.Packed.{accumulated, joined, pack}
 use Rattle.willow.specs.Paths.{path_length}
-use Rattle.willow.specs.Refusals.{refused, value}
-use Rattle.willow.proofs.AnswerLaws.{made_as}
+use Rattle.willow.proofs.LimitLaws.{limit_laws}
 use Rattle.willow.proofs.NumberLaws.{le_length}
 use Rattle.willow.proofs.PackedLaws.{accumulated_length, joined_length, pack_length}
 use Rattle.number.specs.Overwriting.{overwrite}
-use Rattle.number.proofs.OverwritingLaws.{overwrite_append, overwrite_at_front, overwrite_nil, written_on}
-use Rattle.construction.specs.Making.{under_limits}
-use Rattle.greatest.specs.Greatest.{greatest_outcome}
+use Rattle.number.proofs.OverwritingLaws.{length_part, overwrite_append, overwrite_nil, put_mid_lem, written_on}
 
 -- THE PARTS. MCC components, and bytes that are all ff: as many as MCL times MCC and MPL allow.
 filled_count : (mcl k room : ℕ) → length (filled mcl k room) ≡ k
@@ -58,56 +53,67 @@ module _ (L : Limits) where
 
 -- THE ACCUMULATED LENGTHS, written one behind the other: all of them are left, the next of those that are left, none is left.
 pub lengths_start : (L : Limits) (out : List ℕ)
-    → overwrite out 8 (accumulated 0 (filled L.mcl L.mcc (L.mpl - 0))) ≡ overwrite out 8 (accumulated 0 (greatest L))
+    → overwrite out 8 (accumulated 0 (filled L.mcl (L.mcc - 0) (L.mpl - 0))) ≡ overwrite out 8 (accumulated 0 (greatest L))
 unfolding greatest
-lengths_start L out = let z : L.mpl - 0 ≡ L.mpl = omega arith in rw z
+lengths_start L out = let k : L.mcc - 0 ≡ L.mcc = omega arith in let z : L.mpl - 0 ≡ L.mpl = omega arith in rw (k, z)
 
 -- the next component takes n bytes of what is left
-lengths_next : (mcl left mpl sum n : ℕ) → 0 < left → sum ≤ mpl → n ≡ min mcl (mpl - sum)
-    → accumulated sum (filled mcl left (mpl - sum)) ≡ le 8 (sum + n) ++ accumulated (sum + n) (filled mcl (left - 1) (mpl - (sum + n)))
-lengths_next mcl zero mpl sum n h k e = absurd (omega arith)
-lengths_next mcl (suc r) mpl sum n h k e =
-    let z : suc r - 1 ≡ r = omega arith in
+lengths_next : (mcl rest mpl sum n : ℕ) → sum ≤ mpl → n ≡ min mcl (mpl - sum)
+    → accumulated sum (filled mcl (suc rest) (mpl - sum)) ≡ le 8 (sum + n) ++ accumulated (sum + n) (filled mcl rest (mpl - (sum + n)))
+lengths_next mcl rest mpl sum n k e =
     let room : mpl - (sum + n) ≡ mpl - sum - n = omega arith in
-    rw (z, room, ← e, length-replicate {A = ℕ} n 255)
+    rw (room, ← e, length-replicate {A = ℕ} n 255)
 
-module _ (mcl left mpl sum : ℕ) where
-  pub lengths_on : (out next : List ℕ) (at n : ℕ) → 0 < left → sum ≤ mpl → n ≡ min mcl (mpl - sum) → at + 8 ≤ length out
-      → next ≡ overwrite out at (le 8 (sum + n))
-      → overwrite next (at + 8) (accumulated (sum + n) (filled mcl (left - 1) (mpl - (sum + n))))
-      ≡ overwrite out at (accumulated sum (filled mcl left (mpl - sum)))
-  lengths_on out next at n h k e f x =
-      let rest : List ℕ = accumulated (sum + n) (filled mcl (left - 1) (mpl - (sum + n))) in
-      let l : length (le 8 (sum + n)) ≡ 8 = le_length 8 (sum + n) in
-      ap (λ t. overwrite t (at + 8) rest) x
-      ∙ rw l at (overwrite_append out at (le 8 (sum + n)) rest (omega arith))
-      ∙ ap (overwrite out at) (sym (lengths_next mcl left mpl sum n h k e))
+pub lengths_on : (mcl mpl sum left rest at on n : ℕ) (out next : List ℕ) → left ≡ suc rest → on ≡ at + 8 → sum ≤ mpl → n ≡ min mcl (mpl - sum)
+    → at + 8 ≤ length out → next ≡ overwrite out at (le 8 (sum + n))
+    → overwrite next on (accumulated (sum + n) (filled mcl rest (mpl - (sum + n)))) ≡ overwrite out at (accumulated sum (filled mcl left (mpl - sum)))
+lengths_on mcl mpl sum left rest at on n out next el eo k e f x =
+    let behind : List ℕ = accumulated (sum + n) (filled mcl rest (mpl - (sum + n))) in
+    let l : length (le 8 (sum + n)) ≡ 8 = le_length 8 (sum + n) in
+    rw (el, eo)
+    (ap (λ t. overwrite t (at + 8) behind) x
+    ∙ rw l at (overwrite_append out at (le 8 (sum + n)) behind (omega arith))
+    ∙ ap (overwrite out at) (sym (lengths_next mcl rest mpl sum n k e)))
 
-  pub lengths_end : (out : List ℕ) (at : ℕ) → left ≤ 0 → overwrite out at (accumulated sum (filled mcl left (mpl - sum))) ≡ out
-  lengths_end out at h = let z : left ≡ 0 = omega arith in rw z (overwrite_nil out at)
+pub lengths_end : (mcl mpl sum left at : ℕ) (out : List ℕ) → left ≤ 0 → overwrite out at (accumulated sum (filled mcl left (mpl - sum))) ≡ out
+lengths_end mcl mpl sum left at out h = let z : left ≡ 0 = omega arith in rw z (overwrite_nil out at)
 
--- THE LIMITS.
-pub limits_refused : (L : Limits) → accepted_limits L ≡ false → refused BadLimits ≡ greatest_outcome L
-unfolding under_limits limits_refusal
-limits_refused L h = rw h
+-- A PART that was filled with one byte.
+pub part_filled : (s : List ℕ) (at end n v : ℕ) (ys : List ℕ) → end ≡ at + n → end ≤ length s → ys ≡ replicate (length (take (end - at) (drop at s))) v
+    → put_mid at (end - at) s ys ≡ overwrite s at (replicate n v)
+part_filled s at end n v ys h k e =
+    let m : end - at ≡ n = omega arith in
+    let all : ys ≡ replicate n v = e ∙ rw (m, length_part s at n (omega arith)) in
+    rw (m, all) (put_mid_lem s at n (replicate n v) (length-replicate n v))
 
-limits_passed : (L : Limits) → accepted_limits L ≡ true → value (greatest L) ≡ greatest_outcome L
-unfolding under_limits limits_refusal
-limits_passed L h = rw h
+-- HOW LARGE it is, under accepted limits.
+pub record Sized (L : Limits) : Type 0 where
+  pub few : L.mcc ≤ max_mcc
+  pub product : L.mcl * L.mcc ≤ max_mcl * max_mcc
+  pub bytes : path_length (greatest L) ≡ min (L.mcl * L.mcc) L.mpl
+  pub short : path_length (greatest L) ≤ max_mpl
+  pub size : length (pack (greatest L)) ≡ 8 + 8 * L.mcc + path_length (greatest L)
 
--- THE PACKED FORM, written if it fits. `total` is the number of its bytes ff, as the code has it.
-module _ (L : Limits) (total : ℕ) (e : total ≡ min (L.mcl * L.mcc) L.mpl) where
-  abbrev size : ℕ
-  size = 8 + 8 * L.mcc + total
+pub sized : (L : Limits) → accepted_limits L ≡ true → Sized L
+sized L h =
+    let a = (limit_laws.limits_means L).0 h in
+    let n = greatest_length L in
+    let most = a.mpl_within in
+    record {
+      few = a.mcc_within;
+      product = mul-le-mul a.mcl_within a.mcc_within;
+      bytes = n;
+      short = omega arith;
+      size = pack_length (greatest L) ∙ rw (greatest_count L);
+    }
 
-  greatest_size : length (pack (greatest L)) ≡ size
-  greatest_size = pack_length (greatest L) ∙ rw (greatest_count L, greatest_length L, e)
-
+-- THE PACKED FORM, by its writes. `total` is the number of its bytes ff, as the code has it.
+module _ (L : Limits) (total : ℕ) (e : total ≡ path_length (greatest L)) where
   greatest_parts : pack (greatest L) ≡ le 8 L.mcc ++ (accumulated 0 (greatest L) ++ replicate total 255)
   unfolding pack
-  greatest_parts = rw (greatest_count L, greatest_joined L, e)
+  greatest_parts = rw (greatest_count L, greatest_joined L, e, greatest_length L)
 
-  greatest_written : (out first second last : List ℕ) → size ≤ length out
+  pub greatest_written : (out first second last : List ℕ) → 8 + 8 * L.mcc + total ≤ length out
       → first ≡ overwrite out 0 (le 8 L.mcc)
       → second ≡ overwrite first 8 (accumulated 0 (greatest L))
       → last ≡ overwrite second (8 + 8 * L.mcc) (replicate total 255)
@@ -122,20 +128,3 @@ module _ (L : Limits) (total : ℕ) (e : total ≡ min (L.mcl * L.mcc) L.mpl) wh
       let v₂ = written_on out count table first second 0 8 l₁ (omega arith) w₁ w₂ in
       written_on out (count ++ table) bytes second last 0 (8 + 8 * L.mcc) l₂ (omega arith) v₂ w₃
       ∙ ap (overwrite out 0) (append_assoc count table bytes ∙ sym greatest_parts)
-
-  module _ (passed : accepted_limits L ≡ true) (out : List ℕ) where
-    pub greatest_refused : length out < size
-        → (refused OutTooSmall ≡ written_length (packed_outcome (greatest_outcome L)) out) × (out ≡ written_buffer (packed_outcome (greatest_outcome L)) out)
-    greatest_refused h =
-        made_as (value (greatest L)) (greatest_outcome L) (limits_passed L passed) (refused OutTooSmall) out out
-        (rw (greatest_size, lt-leb size (length out) h) (refl, refl))
-
-    pub greatest_answered : (first second last : List ℕ) → size ≤ length out
-        → first ≡ overwrite out 0 (le 8 L.mcc)
-        → second ≡ overwrite first 8 (accumulated 0 (greatest L))
-        → last ≡ overwrite second (8 + 8 * L.mcc) (replicate total 255)
-        → (value size ≡ written_length (packed_outcome (greatest_outcome L)) out) × (last ≡ written_buffer (packed_outcome (greatest_outcome L)) out)
-    greatest_answered first second last h w₁ w₂ w₃ =
-        made_as (value (greatest L)) (greatest_outcome L) (limits_passed L passed) (value size) out last
-        (rw (greatest_size, le-leb size (length out) h)
-        (refl, greatest_written out first second last h w₁ w₂ w₃ ∙ rw greatest_size at (overwrite_at_front out (pack (greatest L)))))

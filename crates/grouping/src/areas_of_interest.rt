@@ -1,5 +1,3 @@
 // Areas of interest (grouping/area_of_interest.rs).
 
-pub use area_of_interest::{
-    AreaOfInterest, InterestMet, compare, default, from_area, intersection, intersection_path, new,
-};
+pub use area_of_interest::{AreaOfInterest, Met, compare, intersection, intersection_path};

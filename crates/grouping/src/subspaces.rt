@@ -1,5 +1,3 @@
 // The subspaces of areas (grouping/area.rs, `AreaSubspace`).
 
-pub use subspace::{
-    Met, compare, equals_id, includes, includes_area_subspace, intersection, is_any,
-};
+pub use subspace::{compare, equals_id, includes, includes_area_subspace, intersection, is_any};

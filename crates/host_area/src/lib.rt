@@ -2,8 +2,9 @@
 //
 // An area is the kind of its subspaces (0 any, 1 one id), an id, the packed path as a buffer with a count beside it, and the start,
 // the kind of the end (0 open, 1 closed) and the end of its times. A number beside kind 0 is not read. A slice is a pointer and then
-// a length; limits are three numbers MCL, MCC, MPL. Every call refuses 1, then 3, then 5.
-#![tactic(auto)]
+// a length; limits are three numbers MCL, MCC, MPL. Every call refuses 1, then 3, then 5. The parts come one by one, as a call for C
+// passes them.
+#![tactic(auto, unfolding(kinds::specs::Kinds::on_kinds))]
 
 ghost use Rattle.std.specs.Prelude.{◌≡◌};
 ghost use Rattle.willow.specs.Answers.{on_paths};
@@ -15,12 +16,11 @@ ghost use Rattle.kinds.specs.Kinds.{both, on_kinds};
 ghost use Rattle.area.specs.LentAreas.{triplet_at};
 ghost use Rattle.area_kinds.specs.AreaKinds.{area_from, area_with};
 
-use area_kinds::{AreaRead, AreasRead};
 use area_questions::{
     almost_includes_area, compare, could_be_pruned_by_triplet, includes_area, includes_triplet,
 };
-use convention::{Answer, asked, compared};
-use willow::{Asked, Compared, Limits};
+use convention::{Answer, answered};
+use willow::Limits;
 
 // Whether an area includes an entry of this subspace, path and timestamp.
 pub fn wotskrale_area_includes_triplet(
@@ -42,13 +42,10 @@ pub fn wotskrale_area_includes_triplet(
     ensures { result ≡ given yes_number (on_kinds (limits_of mcl mcc mpl) (area_from kind id count start end_kind end) (λ a. on_paths (limits_of mcl mcc mpl) base.now a.count path.now path_count (λ p q. value (includes_triplet (area_with a p) (triplet_at subspace q timestamp))))) }
 {
     let limits = Limits { mcl, mcc, mpl };
-    match area_kinds::read_area(limits, kind, id, count, start, end_kind, end) {
-        AreaRead::Refused(r) => asked(Asked::Refused(r)),
-        AreaRead::Is(a) => {
-            let r = includes_triplet(limits, a, base, subspace, path, path_count, timestamp);
-            asked(r)
-        }
-    }
+    let read = area_kinds::read_area(limits, kind, id, count, start, end_kind, end);
+    answered(read.and_then(|a| includes_triplet(
+        limits, a, base, subspace, path, path_count, timestamp,
+    )))
 }
 
 // Whether an entry of this subspace, path and timestamp can prune entries of an area.
@@ -71,15 +68,10 @@ pub fn wotskrale_area_could_be_pruned_by_triplet(
     ensures { result ≡ given yes_number (on_kinds (limits_of mcl mcc mpl) (area_from kind id count start end_kind end) (λ a. on_paths (limits_of mcl mcc mpl) base.now a.count path.now path_count (λ p q. value (area_prunable (area_with a p) (triplet_at subspace q timestamp))))) }
 {
     let limits = Limits { mcl, mcc, mpl };
-    match area_kinds::read_area(limits, kind, id, count, start, end_kind, end) {
-        AreaRead::Refused(r) => asked(Asked::Refused(r)),
-        AreaRead::Is(a) => {
-            let r = could_be_pruned_by_triplet(
-                limits, a, base, subspace, path, path_count, timestamp,
-            );
-            asked(r)
-        }
-    }
+    let read = area_kinds::read_area(limits, kind, id, count, start, end_kind, end);
+    answered(read.and_then(|a| could_be_pruned_by_triplet(
+        limits, a, base, subspace, path, path_count, timestamp,
+    )))
 }
 
 // Whether an area includes another.
@@ -105,12 +97,10 @@ pub fn wotskrale_area_includes_area(
     ensures { result ≡ given yes_number (on_kinds (limits_of mcl mcc mpl) (both (area_from kind id count start end_kind end) (area_from kind2 id2 count2 start2 end_kind2 end2)) (λ x. on_paths (limits_of mcl mcc mpl) base.now x.0.count base2.now x.1.count (λ p q. value (includes_area (area_with x.0 p) (area_with x.1 q))))) }
 {
     let limits = Limits { mcl, mcc, mpl };
-    match area_kinds::read_areas(
+    let read = area_kinds::read_areas(
         limits, kind, id, count, start, end_kind, end, kind2, id2, count2, start2, end_kind2, end2,
-    ) {
-        AreasRead::Refused(r) => asked(Asked::Refused(r)),
-        AreasRead::Are(a, b) => asked(includes_area(limits, a, base, b, base2)),
-    }
+    );
+    answered(read.and_then(|(a, b)| includes_area(limits, a, base, b, base2)))
 }
 
 // Whether an area would include another if their subspaces were the same.
@@ -136,12 +126,10 @@ pub fn wotskrale_area_almost_includes_area(
     ensures { result ≡ given yes_number (on_kinds (limits_of mcl mcc mpl) (both (area_from kind id count start end_kind end) (area_from kind2 id2 count2 start2 end_kind2 end2)) (λ x. on_paths (limits_of mcl mcc mpl) base.now x.0.count base2.now x.1.count (λ p q. value (almost_includes_area (area_with x.0 p) (area_with x.1 q))))) }
 {
     let limits = Limits { mcl, mcc, mpl };
-    match area_kinds::read_areas(
+    let read = area_kinds::read_areas(
         limits, kind, id, count, start, end_kind, end, kind2, id2, count2, start2, end_kind2, end2,
-    ) {
-        AreasRead::Refused(r) => asked(Asked::Refused(r)),
-        AreasRead::Are(a, b) => asked(almost_includes_area(limits, a, base, b, base2)),
-    }
+    );
+    answered(read.and_then(|(a, b)| almost_includes_area(limits, a, base, b, base2)))
 }
 
 // The order of two areas.
@@ -167,10 +155,8 @@ pub fn wotskrale_area_compare(
     ensures { result ≡ given order_number (on_kinds (limits_of mcl mcc mpl) (both (area_from kind id count start end_kind end) (area_from kind2 id2 count2 start2 end_kind2 end2)) (λ x. on_paths (limits_of mcl mcc mpl) base.now x.0.count base2.now x.1.count (λ p q. value (compare_areas (area_with x.0 p) (area_with x.1 q))))) }
 {
     let limits = Limits { mcl, mcc, mpl };
-    match area_kinds::read_areas(
+    let read = area_kinds::read_areas(
         limits, kind, id, count, start, end_kind, end, kind2, id2, count2, start2, end_kind2, end2,
-    ) {
-        AreasRead::Refused(r) => compared(Compared::Refused(r)),
-        AreasRead::Are(a, b) => compared(compare(limits, a, base, b, base2)),
-    }
+    );
+    answered(read.and_then(|(a, b)| compare(limits, a, base, b, base2)))
 }

@@ -3,19 +3,20 @@
 // and the state comes back equal.
 //
 // A slice is a pointer and then a length; limits are three numbers MCL, MCC, MPL. Nothing is required of the host but that a
-// buffer is as long as it says and that the buffer to write overlaps no other.
+// buffer is as long as it says and that the buffer to write overlaps no other. The parts come one by one, and the answers are structs of
+// numbers, as a call for C passes them.
 #![tactic(auto)]
 
 ghost use Rattle.std.specs.Prelude.{◌≡◌};
-ghost use Rattle.willow.specs.Answers.{unless};
+ghost use Rattle.willow.specs.Answers.{outcome, unless};
 ghost use Rattle.willow.specs.Refusals.{value};
 ghost use Rattle.convention.specs.Exports.{limits_of};
 ghost use Rattle.builder_law.specs.Building.{by_refusal, new_buffer, new_refusal, prefix_buffer, prefix_refusal};
-ghost use Rattle.builder.specs.Calls.{append_refusal, appended_refusal, appended_state, build_refusal, built_outcome, built_state, declared_size, grown, grown_buffer, kept_state, started_outcome, state_of};
+ghost use Rattle.builder.specs.Calls.{append_refusal, build_refusal, declared_size, grown, grown_buffer, kept_state, state_of};
 ghost use Rattle.host_builder.specs.BuilderExports.{appended_answer, built_answer, no_state, started_answer};
 
-use builder::{Appended, Builder, Built, Started};
-use willow::Limits;
+use builder::Builder;
+use willow::{Limits, Refusal};
 
 // What a start and an append return: 0 or a refusal's number, and the state; zeros for it after a refused start.
 #[repr(C)]
@@ -34,6 +35,7 @@ pub struct BuiltAnswer {
     pub state: Builder,
 }
 
+// No state: zeros, listed here since `Builder` has no default.
 fn no_state() -> Builder
     ensures { result ≡ no_state }
 {
@@ -47,44 +49,16 @@ fn no_state() -> Builder
     }
 }
 
-fn start_answer(s: Started) -> BuilderAnswer
-    ensures { result ≡ started_answer (started_outcome s) }
+// A start that may have been refused.
+fn start_answer(start: Result<Builder, Refusal>) -> BuilderAnswer
+    ensures { result ≡ started_answer (outcome start) }
 {
-    match s {
-        Started::Refused(r) => BuilderAnswer {
+    match start {
+        Err(r) => BuilderAnswer {
             status: refusals::refusal_number(r),
             state: no_state(),
         },
-        Started::Ready(state) => BuilderAnswer { status: 0, state },
-    }
-}
-
-fn append_answer(a: Appended) -> BuilderAnswer
-    ensures { result ≡ appended_answer (appended_refusal a) (appended_state a) }
-{
-    match a {
-        Appended::Refused(r, state) => BuilderAnswer {
-            status: refusals::refusal_number(r),
-            state,
-        },
-        Appended::Grown(state) => BuilderAnswer { status: 0, state },
-    }
-}
-
-fn build_answer(b: Built) -> BuiltAnswer
-    ensures { result ≡ built_answer (built_outcome b) (built_state b) }
-{
-    match b {
-        Built::Refused(r, state) => BuiltAnswer {
-            status: refusals::refusal_number(r),
-            value: 0,
-            state,
-        },
-        Built::Path(n) => BuiltAnswer {
-            status: 0,
-            value: n,
-            state: no_state(),
-        },
+        Ok(state) => BuilderAnswer { status: 0, state },
     }
 }
 
@@ -126,12 +100,27 @@ pub fn wotskrale_builder_append_component(state: Builder, out: &mut [u8], c: &[u
     ensures value { result ≡ appended_answer (append_refusal state c.now out.old) (by_refusal (append_refusal state c.now out.old) state (grown state)) }
     ensures out_after { out.new ≡ by_refusal (append_refusal state c.now out.old) out.old (grown_buffer state c.now out.old) }
 {
-    append_answer(state.append_component(out, c))
+    let (status, state) = match state.append_component(out, c) {
+        Err(rejected) => (refusals::refusal_number(rejected.refusal), rejected.builder),
+        Ok(grown) => (0, grown),
+    };
+    BuilderAnswer { status, state }
 }
 
 // The path is whole: its length in the buffer, from the front.
 pub fn wotskrale_builder_build(state: Builder, out: &[u8]) -> BuiltAnswer
     ensures { result ≡ built_answer (unless (build_refusal state out.now) (value (declared_size state))) (kept_state (build_refusal state out.now) state) }
 {
-    build_answer(state.build(out))
+    match state.build(out) {
+        Err(rejected) => BuiltAnswer {
+            status: refusals::refusal_number(rejected.refusal),
+            value: 0,
+            state: rejected.builder,
+        },
+        Ok(n) => BuiltAnswer {
+            status: 0,
+            value: n,
+            state: no_state(),
+        },
+    }
 }

@@ -2,7 +2,8 @@
 //
 // A slice is a pointer and then a length, a digest a pointer to 32 bytes; limits are three numbers MCL, MCC, MPL. An entry is
 // its namespace, its subspace, a path with its count, its timestamp, its payload length and its digest, in this order; a call
-// leaves out what plays no part in it. Nothing is required of the host but that a buffer is as long as it says.
+// leaves out what plays no part in it. Nothing is required of the host but that a buffer is as long as it says. The parts come one by
+// one, as a call for C passes them.
 #![tactic(auto)]
 
 ghost use Rattle.std.specs.Prelude.{◌≡◌, List, ℕ};
@@ -14,7 +15,8 @@ ghost use Rattle.willow.specs.Refusals.{value};
 ghost use Rattle.convention.specs.Exports.{given, limits_of, yes_number};
 ghost use Rattle.host_entry.specs.EntryExports.{entry_of};
 
-use convention::{Answer, asked, compared};
+use convention::{Answer, answered};
+use entry::Head;
 use entry_questions::{compare, compare_places, equal, is_newer_than, is_pruned_by, prunes};
 use willow::Limits;
 
@@ -29,9 +31,9 @@ pub fn wotskrale_entry_is_newer_than(
 ) -> Answer
     ensures { (m n s u : ℕ) (p q : Path) → result ≡ given yes_number (value (is_newer (entry_of m s p timestamp payload_length digest.now) (entry_of n u q timestamp2 payload_length2 digest2.now))) }
 {
-    let h = entry::new(0, timestamp, payload_length, digest);
-    let h2 = entry::new(0, timestamp2, payload_length2, digest2);
-    asked(is_newer_than(h, h2))
+    let head = Head::new(0, timestamp, payload_length, digest);
+    let head2 = Head::new(0, timestamp2, payload_length2, digest2);
+    answered(is_newer_than(head, head2))
 }
 
 // Whether the first entry would be pruned by the second.
@@ -56,10 +58,12 @@ pub fn wotskrale_entry_is_pruned_by(
 ) -> Answer
     ensures { result ≡ given yes_number (on_paths (limits_of mcl mcc mpl) path.now count path2.now count2 (λ p q. value (prunes (entry_of namespace2 subspace2 q timestamp2 payload_length2 digest2.now) (entry_of namespace subspace p timestamp payload_length digest.now)))) }
 {
-    let h = entry::new(subspace, timestamp, payload_length, digest);
-    let h2 = entry::new(subspace2, timestamp2, payload_length2, digest2);
-    let l = Limits { mcl, mcc, mpl };
-    asked(is_pruned_by(l, namespace, h, path, count, namespace2, h2, path2, count2))
+    let head = Head::new(subspace, timestamp, payload_length, digest);
+    let head2 = Head::new(subspace2, timestamp2, payload_length2, digest2);
+    let limits = Limits { mcl, mcc, mpl };
+    answered(is_pruned_by(
+        limits, namespace, head, path, count, namespace2, head2, path2, count2,
+    ))
 }
 
 // Whether the first entry prunes the second.
@@ -84,10 +88,12 @@ pub fn wotskrale_entry_prunes(
 ) -> Answer
     ensures { result ≡ given yes_number (on_paths (limits_of mcl mcc mpl) path.now count path2.now count2 (λ p q. value (prunes (entry_of namespace subspace p timestamp payload_length digest.now) (entry_of namespace2 subspace2 q timestamp2 payload_length2 digest2.now)))) }
 {
-    let h = entry::new(subspace, timestamp, payload_length, digest);
-    let h2 = entry::new(subspace2, timestamp2, payload_length2, digest2);
-    let l = Limits { mcl, mcc, mpl };
-    asked(prunes(l, namespace, h, path, count, namespace2, h2, path2, count2))
+    let head = Head::new(subspace, timestamp, payload_length, digest);
+    let head2 = Head::new(subspace2, timestamp2, payload_length2, digest2);
+    let limits = Limits { mcl, mcc, mpl };
+    answered(prunes(
+        limits, namespace, head, path, count, namespace2, head2, path2, count2,
+    ))
 }
 
 // Whether two entries are equal in every field.
@@ -112,10 +118,12 @@ pub fn wotskrale_entry_equal(
 ) -> Answer
     ensures { result ≡ given yes_number (on_paths (limits_of mcl mcc mpl) path.now count path2.now count2 (λ p q. value (same_entry (entry_of namespace subspace p timestamp payload_length digest.now) (entry_of namespace2 subspace2 q timestamp2 payload_length2 digest2.now)))) }
 {
-    let h = entry::new(subspace, timestamp, payload_length, digest);
-    let h2 = entry::new(subspace2, timestamp2, payload_length2, digest2);
-    let l = Limits { mcl, mcc, mpl };
-    asked(equal(l, namespace, h, path, count, namespace2, h2, path2, count2))
+    let head = Head::new(subspace, timestamp, payload_length, digest);
+    let head2 = Head::new(subspace2, timestamp2, payload_length2, digest2);
+    let limits = Limits { mcl, mcc, mpl };
+    answered(equal(
+        limits, namespace, head, path, count, namespace2, head2, path2, count2,
+    ))
 }
 
 // The order of a store sheet: by subspace, then by path, whatever the rest.
@@ -133,10 +141,10 @@ pub fn wotskrale_entry_compare_places(
     ensures { (m n t u l k : ℕ) (d e : List ℕ) → result ≡ given order_number (on_paths (limits_of mcl mcc mpl) path.now count path2.now count2 (λ p q. value (compare_places (entry_of m subspace p t l d) (entry_of n subspace2 q u k e)))) }
 {
     let digest = [0; 32];
-    let h = entry::new(subspace, 0, 0, &digest);
-    let h2 = entry::new(subspace2, 0, 0, &digest);
-    let l = Limits { mcl, mcc, mpl };
-    compared(compare_places(l, 0, h, path, count, 0, h2, path2, count2))
+    let head = Head::new(subspace, 0, 0, &digest);
+    let head2 = Head::new(subspace2, 0, 0, &digest);
+    let limits = Limits { mcl, mcc, mpl };
+    answered(compare_places(limits, 0, head, path, count, 0, head2, path2, count2))
 }
 
 // The order of entries: by namespace, subspace, path, timestamp, digest, payload length.
@@ -161,8 +169,10 @@ pub fn wotskrale_entry_compare(
 ) -> Answer
     ensures { result ≡ given order_number (on_paths (limits_of mcl mcc mpl) path.now count path2.now count2 (λ p q. value (compare_entries (entry_of namespace subspace p timestamp payload_length digest.now) (entry_of namespace2 subspace2 q timestamp2 payload_length2 digest2.now)))) }
 {
-    let h = entry::new(subspace, timestamp, payload_length, digest);
-    let h2 = entry::new(subspace2, timestamp2, payload_length2, digest2);
-    let l = Limits { mcl, mcc, mpl };
-    compared(compare(l, namespace, h, path, count, namespace2, h2, path2, count2))
+    let head = Head::new(subspace, timestamp, payload_length, digest);
+    let head2 = Head::new(subspace2, timestamp2, payload_length2, digest2);
+    let limits = Limits { mcl, mcc, mpl };
+    answered(compare(
+        limits, namespace, head, path, count, namespace2, head2, path2, count2,
+    ))
 }

@@ -13,10 +13,9 @@ use Rattle.host_law.specs.HostNumbers.{offer_number}
 use Rattle.host_law.proofs.HostNumberLaws.{status_tells, host_numbers}
 use Rattle.host_law.proofs.AnsweredKindLaws.{end_answered, subspace_answered}
 use Rattle.area_intersection.specs.Standing.{Whose, first, second, whose_number}
-use Rattle.path_range_intersection.specs.declared.EndSide.{EndSide}
-use Rattle.path_range_intersection.specs.declared.EndSide.TheVariants as ending
 use Rattle.path_range_intersection.specs.declared.Side.{Side}
 use Rattle.path_range_intersection.specs.declared.Side.TheVariants as side
+use Rattle.willow.specs.Ranges.{End, closed, endless}
 use Rattle.side_kinds.specs.SideKinds.{side_number, end_side_kind, end_side_number}
 use Rattle.host_range.specs.RangeExports.{given_range}
 use Rattle.host_path_range_intersection.specs.PathRangeExports as paths
@@ -100,21 +99,15 @@ starts_apart side.First side.Second e = absurd (omega arith)
 starts_apart side.Second side.First e = absurd (omega arith)
 starts_apart side.Second side.Second e = refl
 
-ends_apart : (x y : EndSide) → end_side_kind x ≡ end_side_kind y → end_side_number x ≡ end_side_number y → x ≡ y
-ends_apart ending.First ending.First e f = refl
-ends_apart ending.First ending.Second e f = absurd (omega arith)
-ends_apart ending.First ending.Open e f = absurd (omega arith)
-ends_apart ending.Second ending.First e f = absurd (omega arith)
-ends_apart ending.Second ending.Second e f = refl
-ends_apart ending.Second ending.Open e f = absurd (omega arith)
-ends_apart ending.Open ending.First e f = absurd (omega arith)
-ends_apart ending.Open ending.Second e f = absurd (omega arith)
-ends_apart ending.Open ending.Open e f = refl
+ends_apart : (x y : End Side) → end_side_kind x ≡ end_side_kind y → end_side_number x ≡ end_side_number y → x ≡ y
+ends_apart (closed a) (closed b) e f = ap closed (starts_apart a b f)
+ends_apart (closed a) endless e f = absurd (omega arith)
+ends_apart endless (closed b) e f = absurd (omega arith)
+ends_apart endless endless e f = refl
 
-open_end : (x : EndSide) → (end_side_kind x ≡ 0) ↔ (x ≡ ending.Open)
-open_end ending.First = (λ e. absurd (omega arith), λ h. let z : ◌≡◌ {A = ℕ} 1 0 = ap end_side_kind h in absurd (omega arith))
-open_end ending.Second = (λ e. absurd (omega arith), λ h. let z : ◌≡◌ {A = ℕ} 1 0 = ap end_side_kind h in absurd (omega arith))
-open_end ending.Open = (λ e. refl, λ h. refl)
+open_end : (x : End Side) → (end_side_kind x ≡ 0) ↔ (x ≡ endless)
+open_end (closed a) = (λ e. absurd (omega arith), λ h. let z : ◌≡◌ {A = ℕ} 1 0 = ap end_side_kind h in absurd (omega arith))
+open_end endless = (λ e. refl, λ h. refl)
 
 offer_answer : (a : Answer) → (given_offer a).answer ≡ offer_number a
 offer_answer (refused r) = refl

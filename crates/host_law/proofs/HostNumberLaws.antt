@@ -6,8 +6,8 @@ use mathlib.Core.Logic.{◌↔◌}
 use mathlib.Core.Bool.{Bool, true, false}
 use mathlib.Core.Option.{Option, none, some}
 use native.Mathlib.Omega.{arith}
-use Rattle.willow.specs.declared.Order.{Order}
-use Rattle.willow.specs.declared.Order.TheVariants.{Less, Equal, Greater}
+use Rattle.std.specs.declared.cmp.Ordering.{Ordering}
+use Rattle.std.specs.declared.cmp.Ordering.TheVariants.{Less, Equal, Greater}
 use Rattle.willow.specs.declared.Refusal.{Refusal}
 use Rattle.willow.specs.declared.Refusal.TheVariants.{BadLimits, BadSheet, BadKind, WrongNamespace, BadPath, BadLengths, PathTooLong, TooManyComponents, ComponentTooLong, NoSuchPrefix, Overfilled, Unfinished, TotalFull, NoRoom, OutTooSmall}
 use Rattle.willow.specs.Orders.{order_number}
@@ -125,7 +125,7 @@ no_told : (b : Bool) → (yes_number b ≡ 0) ↔ (b ≡ false)
 no_told true = (λ e. absurd (omega arith), λ h. let z : ◌≡◌ {A = ℕ} 1 0 = ap bit h in absurd (omega arith))
 no_told false = (λ e. refl, λ h. refl)
 
-orders_apart : (o p : Order) → order_number o ≡ order_number p → o ≡ p
+orders_apart : (o p : Ordering) → order_number o ≡ order_number p → o ≡ p
 orders_apart Less Less e = refl
 orders_apart Less Equal e = absurd (omega arith)
 orders_apart Less Greater e = absurd (omega arith)

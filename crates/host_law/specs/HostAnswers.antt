@@ -5,7 +5,7 @@ use Rattle.std.specs.Prelude.{ℕ, ◌≡◌, ◌↔◌, false, length}
 use Rattle.std.proofs.Math.Option.{Option, none, some}
 use Rattle.willow.specs.declared.Refusal.{Refusal}
 use Rattle.willow.specs.Entries.{Entry}
-use Rattle.willow.specs.Ranges.{Range}
+use Rattle.willow.specs.Ranges.{End, endless, Range}
 use Rattle.willow.specs.Refusals.{refusal_number, Outcome, value}
 use Rattle.willow.specs.Store.{Answer, refused, taken, is_refused}
 use Rattle.convention.specs.Exports.{answered_status}
@@ -14,8 +14,6 @@ use Rattle.kind_law.specs.KindMeaning.{MeansEnd, MeansSubspace, MeansRange}
 use Rattle.area_kinds.specs.AreaKinds.{Parts}
 use Rattle.area_intersection.specs.Standing.{Standing, Whose, whose_number}
 use Rattle.area_of_interest.specs.Interests.{StandingInterest}
-use Rattle.path_range_intersection.specs.declared.EndSide.{EndSide}
-use Rattle.path_range_intersection.specs.declared.EndSide.TheVariants as ending
 use Rattle.path_range_intersection.specs.declared.Side.{Side}
 use Rattle.range_3d_intersection.specs.Sides3d.{Standing3d, Counts3d}
 use Rattle.side_kinds.specs.SideKinds.{side_number, end_side_kind, end_side_number}
@@ -69,12 +67,12 @@ pub record Answers : Type 0 where
       → ((given_interest (value s)).whose ≡ whose_number s.area.whose) × ((given_interest (value s)).count ≡ s.area.count)
   pub interest_bounds : (s : StandingInterest)
       → ((given_interest (value s)).max_count ≡ s.max_count) × ((given_interest (value s)).max_size ≡ s.max_size)
-  pub sides_start : (x : Side × EndSide) → (paths.given_sides (value x)).start ≡ side_number x.0
-  pub sides_end : (x : Side × EndSide)
-      → ((paths.given_sides (value x)).end_kind ≡ end_side_kind x.1) × ((paths.given_sides (value x)).end ≡ end_side_number x.1)
+  pub sides_start : (x : Range Side) → (paths.given_sides (value x)).start ≡ side_number x.start
+  pub sides_end : (x : Range Side)
+      → ((paths.given_sides (value x)).end_kind ≡ end_side_kind x.end) × ((paths.given_sides (value x)).end ≡ end_side_number x.end)
   pub starts_apart : (x y : Side) → side_number x ≡ side_number y → x ≡ y
-  pub ends_apart : (x y : EndSide) → end_side_kind x ≡ end_side_kind y → end_side_number x ≡ end_side_number y → x ≡ y
-  pub open_end : (x : EndSide) → (end_side_kind x ≡ 0) ↔ (x ≡ ending.Open)
+  pub ends_apart : (x y : End Side) → end_side_kind x ≡ end_side_kind y → end_side_number x ≡ end_side_number y → x ≡ y
+  pub open_end : (x : End Side) → (end_side_kind x ≡ 0) ↔ (x ≡ endless)
   pub range3d_subspaces : (x : Standing3d)
       → MeansRange (ranges3d.given_sides (value x)).subspace_start (ranges3d.given_sides (value x)).subspace_end_kind
       (ranges3d.given_sides (value x)).subspace_end x.subspaces
@@ -82,9 +80,9 @@ pub record Answers : Type 0 where
       → MeansRange (ranges3d.given_sides (value x)).time_start (ranges3d.given_sides (value x)).time_end_kind
       (ranges3d.given_sides (value x)).time_end x.times
   pub range3d_paths : (x : Standing3d)
-      → ((ranges3d.given_sides (value x)).path_start ≡ side_number x.start)
-      × ((ranges3d.given_sides (value x)).path_end_kind ≡ end_side_kind x.end)
-      × ((ranges3d.given_sides (value x)).path_end ≡ end_side_number x.end)
+      → ((ranges3d.given_sides (value x)).path_start ≡ side_number x.paths.start)
+      × ((ranges3d.given_sides (value x)).path_end_kind ≡ end_side_kind x.paths.end)
+      × ((ranges3d.given_sides (value x)).path_end ≡ end_side_number x.paths.end)
   pub counts_subspaces : (x : Counts3d × ℕ)
       → MeansRange (given_counts (value x)).subspace_start (given_counts (value x)).subspace_end_kind (given_counts (value x)).subspace_end
       x.0.subspaces

@@ -1,7 +1,7 @@
 -- What the numbers towards a host tell: that no two cases of an answer have the same, and what each of them says.
 use Rattle.std.specs.Prelude.{ℕ, ◌≤◌, ◌≡◌, ◌↔◌, Bool, true, false}
 use Rattle.std.proofs.Math.Option.{Option, none, some}
-use Rattle.willow.specs.declared.Order.{Order}
+use Rattle.std.specs.declared.cmp.Ordering.{Ordering}
 use Rattle.willow.specs.declared.Refusal.{Refusal}
 use Rattle.willow.specs.Orders.{order_number}
 use Rattle.willow.specs.Refusals.{refusal_number, Outcome, refused, absent, value}
@@ -39,7 +39,7 @@ pub record HostNumbers : Type 1 where
   -- no is 0 and yes is 1; orders have each its own number
   pub yes_told : (b : Bool) → (yes_number b ≡ 1) ↔ (b ≡ true)
   pub no_told : (b : Bool) → (yes_number b ≡ 0) ↔ (b ≡ false)
-  pub orders_apart : (o p : Order) → order_number o ≡ order_number p → o ≡ p
+  pub orders_apart : (o p : Ordering) → order_number o ≡ order_number p → o ≡ p
   -- what an unrefused offer was answered
   pub outdated_told : (a : Answer) → (offer_number a ≡ outdated_number) ↔ (a ≡ outdated)
   pub repeat_told : (a : Answer) → (offer_number a ≡ repeat_number) ↔ (a ≡ repeated)

@@ -7,13 +7,12 @@ ghost use Rattle.willow.specs.Answers.{on_paths, path_in};
 ghost use Rattle.willow.specs.Lists.{is_some};
 ghost use Rattle.willow.specs.Orders.{order_number};
 ghost use Rattle.willow.specs.Paths.{compare_paths};
-ghost use Rattle.willow.specs.Ranges.{compare_ends, compare_ranges, end_above, includes, includes_range, new_closed};
+ghost use Rattle.willow.specs.Ranges.{compare_ends, compare_ranges, end_above, end_from, includes, includes_range, new_closed};
 ghost use Rattle.willow.specs.Refusals.{value};
 ghost use Rattle.convention.specs.Exports.{given, limits_of, yes_number};
-ghost use Rattle.kinds.specs.Kinds.{both, on_kinds};
+ghost use Rattle.kinds.specs.Kinds.{both, on_kinds, range_from};
 ghost use Rattle.path_bounds.specs.LentPaths.{on_lent};
 ghost use Rattle.path_bounds.specs.LentRanges.{end_paths, path_end_of, path_range_of, range_paths};
-ghost use Rattle.path_kinds.specs.PathKinds.{path_end_from, path_range_from};
 
 use convention::Answer;
 
@@ -29,7 +28,7 @@ pub extern "C" fn wotskrale_path_range_end_above(
     path: &[u8],
     count: u64,
 ) -> Answer
-    ensures { result ≡ given yes_number (on_kinds (limits_of mcl mcc mpl) (path_end_from kind end) (λ x. on_lent (limits_of mcl mcc mpl) (end_paths x e.now ++ ((path.now, count) ∷ [])) (value (end_above compare_paths (path_end_of x e.now) (path_in path.now count))))) }
+    ensures { result ≡ given yes_number (on_kinds (limits_of mcl mcc mpl) (end_from kind end) (λ x. on_lent (limits_of mcl mcc mpl) (end_paths x e.now ++ ((path.now, count) ∷ [])) (value (end_above compare_paths (path_end_of x e.now) (path_in path.now count))))) }
 {
     host_path_range::wotskrale_path_range_end_above(mcl, mcc, mpl, kind, e, end, path, count)
 }
@@ -47,7 +46,7 @@ pub extern "C" fn wotskrale_path_range_compare_ends(
     e2: &[u8],
     end2: u64,
 ) -> Answer
-    ensures { result ≡ given order_number (on_kinds (limits_of mcl mcc mpl) (both (path_end_from kind end) (path_end_from kind2 end2)) (λ x. on_lent (limits_of mcl mcc mpl) (end_paths x.0 e.now ++ end_paths x.1 e2.now) (value (compare_ends compare_paths (path_end_of x.0 e.now) (path_end_of x.1 e2.now))))) }
+    ensures { result ≡ given order_number (on_kinds (limits_of mcl mcc mpl) (both (end_from kind end) (end_from kind2 end2)) (λ x. on_lent (limits_of mcl mcc mpl) (end_paths x.0 e.now ++ end_paths x.1 e2.now) (value (compare_ends compare_paths (path_end_of x.0 e.now) (path_end_of x.1 e2.now))))) }
 {
     host_path_range::wotskrale_path_range_compare_ends(mcl, mcc, mpl, kind, e, end, kind2, e2, end2)
 }
@@ -82,7 +81,7 @@ pub extern "C" fn wotskrale_path_range_includes(
     path: &[u8],
     count: u64,
 ) -> Answer
-    ensures { result ≡ given yes_number (on_kinds (limits_of mcl mcc mpl) (path_range_from start kind end) (λ x. on_lent (limits_of mcl mcc mpl) (range_paths x s.now e.now ++ ((path.now, count) ∷ [])) (value (includes compare_paths (path_range_of x s.now e.now) (path_in path.now count))))) }
+    ensures { result ≡ given yes_number (on_kinds (limits_of mcl mcc mpl) (range_from start kind end) (λ x. on_lent (limits_of mcl mcc mpl) (range_paths x s.now e.now ++ ((path.now, count) ∷ [])) (value (includes compare_paths (path_range_of x s.now e.now) (path_in path.now count))))) }
 {
     host_path_range::wotskrale_path_range_includes(
         mcl, mcc, mpl, s, start, kind, e, end, path, count,
@@ -106,7 +105,7 @@ pub extern "C" fn wotskrale_path_range_includes_range(
     e2: &[u8],
     end2: u64,
 ) -> Answer
-    ensures { result ≡ given yes_number (on_kinds (limits_of mcl mcc mpl) (both (path_range_from start kind end) (path_range_from start2 kind2 end2)) (λ x. on_lent (limits_of mcl mcc mpl) (range_paths x.0 s.now e.now ++ range_paths x.1 s2.now e2.now) (value (includes_range compare_paths (path_range_of x.0 s.now e.now) (path_range_of x.1 s2.now e2.now))))) }
+    ensures { result ≡ given yes_number (on_kinds (limits_of mcl mcc mpl) (both (range_from start kind end) (range_from start2 kind2 end2)) (λ x. on_lent (limits_of mcl mcc mpl) (range_paths x.0 s.now e.now ++ range_paths x.1 s2.now e2.now) (value (includes_range compare_paths (path_range_of x.0 s.now e.now) (path_range_of x.1 s2.now e2.now))))) }
 {
     host_path_range::wotskrale_path_range_includes_range(
         mcl, mcc, mpl, s, start, kind, e, end, s2, start2, kind2, e2, end2,
@@ -130,7 +129,7 @@ pub extern "C" fn wotskrale_path_range_compare(
     e2: &[u8],
     end2: u64,
 ) -> Answer
-    ensures { result ≡ given order_number (on_kinds (limits_of mcl mcc mpl) (both (path_range_from start kind end) (path_range_from start2 kind2 end2)) (λ x. on_lent (limits_of mcl mcc mpl) (range_paths x.0 s.now e.now ++ range_paths x.1 s2.now e2.now) (value (compare_ranges compare_paths (path_range_of x.0 s.now e.now) (path_range_of x.1 s2.now e2.now))))) }
+    ensures { result ≡ given order_number (on_kinds (limits_of mcl mcc mpl) (both (range_from start kind end) (range_from start2 kind2 end2)) (λ x. on_lent (limits_of mcl mcc mpl) (range_paths x.0 s.now e.now ++ range_paths x.1 s2.now e2.now) (value (compare_ranges compare_paths (path_range_of x.0 s.now e.now) (path_range_of x.1 s2.now e2.now))))) }
 {
     host_path_range::wotskrale_path_range_compare(
         mcl, mcc, mpl, s, start, kind, e, end, s2, start2, kind2, e2, end2,

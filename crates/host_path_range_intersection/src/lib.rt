@@ -1,25 +1,27 @@
 // The intersection of two ranges of paths (`path_range_intersection`) for a host in another language. Ranges are passed as in
-// `host_path_range`; the call refuses 1, then 3, then 5.
-#![tactic(auto)]
+// `host_path_range`; the call refuses 1, then 3, then 5. The parts come one by one, and the answer is a struct of numbers, as a call for
+// C passes them.
+#![tactic(auto, unfolding(kinds::specs::Kinds::on_kinds))]
 
 ghost use Rattle.std.specs.Prelude.{◌++◌, ◌≡◌};
+ghost use Rattle.willow.specs.Answers.{optional_outcome_by};
 ghost use Rattle.willow.specs.Paths.{compare_paths};
 ghost use Rattle.convention.specs.Exports.{limits_of};
-ghost use Rattle.kinds.specs.Kinds.{both, on_kinds};
+ghost use Rattle.kinds.specs.Kinds.{both, on_kinds, range_from};
+ghost use Rattle.range.specs.NumberRanges.{range_of};
 ghost use Rattle.path_bounds.specs.LentPaths.{on_lent};
 ghost use Rattle.path_bounds.specs.LentRanges.{path_range_of, range_paths};
-ghost use Rattle.path_range_intersection.specs.Sides.{met_outcome, sides_met};
-ghost use Rattle.path_kinds.specs.PathKinds.{path_range_from};
-ghost use Rattle.host_path_range_intersection.specs.PathRangeExports.{given_sides, no_sides};
+ghost use Rattle.path_range_intersection.specs.Sides.{sides_met};
+ghost use Rattle.host_path_range_intersection.specs.PathRangeExports.{given_sides};
 
-use path_kinds::RangesRead;
-use path_range_intersection::SidesMet;
-use willow::Limits;
+use path_range_intersection::Side;
+use range::Range;
+use willow::{Limits, Refusal};
 
 // An intersection as an answer: 0, a refusal's number or 255 for none; whose start stands (0 the first's, 1 the second's), the kind of
 // its end, and whose end stands; zeros unless there is one, and 0 beside kind 0.
 #[repr(C)]
-#[derive(Clone, Copy)]
+#[derive(Clone, Copy, Default)]
 pub struct SidesAnswer {
     pub status: u64,
     pub start: u64,
@@ -27,31 +29,23 @@ pub struct SidesAnswer {
     pub end: u64,
 }
 
-// No intersection: why.
-fn no_sides(status: u64) -> SidesAnswer
-    ensures { result ≡ no_sides status }
-{
-    SidesAnswer {
-        status,
-        start: 0,
-        end_kind: 0,
-        end: 0,
-    }
-}
+// What there may not be.
+impl From<Result<Option<Range<Side>>, Refusal>> for SidesAnswer {
+    ghost from_gives = { λ m a. a ≡ given_sides (optional_outcome_by range_of m) };
 
-// An intersection that there may not be.
-fn met(m: SidesMet) -> SidesAnswer
-    ensures { result ≡ given_sides (met_outcome m) }
-{
-    match m {
-        SidesMet::Refused(r) => no_sides(refusals::refusal_number(r)),
-        SidesMet::Nothing => no_sides(255),
-        SidesMet::Are(a, b) => SidesAnswer {
-            status: 0,
-            start: side_kinds::side_number(a),
-            end_kind: side_kinds::end_side_kind(b),
-            end: side_kinds::end_side_number(b),
-        },
+    fn from(met: Result<Option<Range<Side>>, Refusal>) -> SidesAnswer {
+        match convention::value_or_status(met) {
+            Err(status) => SidesAnswer {
+                status,
+                ..SidesAnswer::default()
+            },
+            Ok(sides) => SidesAnswer {
+                status: 0,
+                start: side_kinds::side_number(sides.start),
+                end_kind: side_kinds::end_side_kind(sides.end),
+                end: side_kinds::end_side_number(sides.end),
+            },
+        }
     }
 }
 
@@ -71,14 +65,11 @@ pub fn wotskrale_path_range_intersection(
     e2: &[u8],
     end2: u64,
 ) -> SidesAnswer
-    ensures { result ≡ given_sides (on_kinds (limits_of mcl mcc mpl) (both (path_range_from start kind end) (path_range_from start2 kind2 end2)) (λ x. on_lent (limits_of mcl mcc mpl) (range_paths x.0 s.now e.now ++ range_paths x.1 s2.now e2.now) (sides_met compare_paths (path_range_of x.0 s.now e.now) (path_range_of x.1 s2.now e2.now)))) }
+    ensures { result ≡ given_sides (on_kinds (limits_of mcl mcc mpl) (both (range_from start kind end) (range_from start2 kind2 end2)) (λ x. on_lent (limits_of mcl mcc mpl) (range_paths x.0 s.now e.now ++ range_paths x.1 s2.now e2.now) (sides_met compare_paths (path_range_of x.0 s.now e.now) (path_range_of x.1 s2.now e2.now)))) }
 {
     let limits = Limits { mcl, mcc, mpl };
-    match path_kinds::read_ranges(limits, start, kind, end, start2, kind2, end2) {
-        RangesRead::Refused(r) => met(SidesMet::Refused(r)),
-        RangesRead::Are(a, b) => {
-            let m = path_range_intersection::intersection(limits, a, s, e, b, s2, e2);
-            met(m)
-        }
-    }
+    let read = path_kinds::read_ranges(limits, start, kind, end, start2, kind2, end2);
+    SidesAnswer::from(read.and_then(|(a, b)| path_range_intersection::intersection(
+        limits, a, s, e, b, s2, e2,
+    )))
 }

@@ -6,10 +6,6 @@ use Rattle.willow.specs.Refusals.{refusal_number, Outcome, refused, absent, valu
 use Rattle.convention.specs.Exports.{answered_status, none_status}
 use Rattle.range.specs.NumberRanges.{range_of}
 use Rattle.kinds.specs.Kinds.{both, of_kinds, range_from}
-use Rattle.host_range.specs.declared.EndsRead.{EndsRead}
-use Rattle.host_range.specs.declared.EndsRead.TheVariants as ends
-use Rattle.host_range.specs.declared.RangesRead.{RangesRead}
-use Rattle.host_range.specs.declared.RangesRead.TheVariants as ranges
 use Rattle.host_range.specs.declared.RangeAnswer.{RangeAnswer}
 
 -- Questions on one end, on two, on one range and on two.
@@ -26,16 +22,10 @@ abbrev pub on_ranges : {A : Type 0} → ℕ → ℕ → ℕ → ℕ → ℕ → 
 on_ranges a j m b k n f = of_kinds (both (range_from a j m) (range_from b k n)) (λ p. f p.0 p.1)
 
 -- A range as an answer: status first, and zeros unless there is one; "in an answer .. the number there is 0" beside kind 0.
+abbrev pub no_range : ℕ → RangeAnswer
+no_range status = record { status = status; start = 0; end_kind = 0; end = 0 }
+
 abbrev pub given_range : Outcome (Range ℕ) → RangeAnswer
-given_range (refused r) = record { status = refusal_number r; start = 0; end_kind = 0; end = 0 }
-given_range absent = record { status = none_status; start = 0; end_kind = 0; end = 0 }
+given_range (refused r) = no_range (refusal_number r)
+given_range absent = no_range none_status
 given_range (value r) = record { status = answered_status; start = r.start; end_kind = end_kind r.end; end = end_value r.end }
-
--- What the cases of the code's readings mean.
-abbrev pub ends_read : EndsRead → Option (End ℕ × End ℕ)
-ends_read ends.Bad = none
-ends_read (ends.Are d e) = some (end_of d, end_of e)
-
-abbrev pub ranges_read : RangesRead → Option (Range ℕ × Range ℕ)
-ranges_read ranges.Bad = none
-ranges_read (ranges.Are r s) = some (range_of r, range_of s)

@@ -2,8 +2,9 @@
 //
 // A 3d range is a start, the kind of the end (0 open, 1 closed) and an end, of its subspaces, of its paths and of its times. Those of
 // the paths are packed paths, each a buffer with a count beside it. What stands beside kind 0 is not read. A slice is a pointer and
-// then a length; limits are three numbers MCL, MCC, MPL. Every call refuses 1, then 3, then 5.
-#![tactic(auto)]
+// then a length; limits are three numbers MCL, MCC, MPL. Every call refuses 1, then 3, then 5. The parts come one by one, as a call for
+// C passes them.
+#![tactic(auto, unfolding(kinds::specs::Kinds::on_kinds))]
 
 ghost use Rattle.std.specs.Prelude.{[], ◌∷◌, ◌++◌, ◌≡◌};
 ghost use Rattle.willow.specs.Answers.{path_in};
@@ -17,10 +18,9 @@ ghost use Rattle.path_bounds.specs.LentPaths.{on_lent};
 ghost use Rattle.path_bounds.specs.LentRanges.{range_paths};
 ghost use Rattle.range_3d_kinds.specs.Range3dKinds.{parts3d_from, range3d_with};
 
-use convention::{Answer, asked, compared};
-use range_3d_kinds::{Range3dRead, Ranges3dRead};
+use convention::{Answer, answered};
 use range_3d_questions::{compare, could_be_pruned_by_triplet, includes_range, includes_triplet};
-use willow::{Asked, Compared, Limits};
+use willow::Limits;
 
 // Whether a 3d range includes an entry of this subspace, path and timestamp.
 pub fn wotskrale_range_3d_includes_triplet(
@@ -46,7 +46,7 @@ pub fn wotskrale_range_3d_includes_triplet(
     ensures { result ≡ given yes_number (on_kinds (limits_of mcl mcc mpl) (parts3d_from subspace_start subspace_end_kind subspace_end start_count path_end_kind end_count time_start time_end_kind time_end) (λ x. on_lent (limits_of mcl mcc mpl) (range_paths x.paths s.now e.now ++ ((path.now, count) ∷ [])) (value (includes_triplet3d (range3d_with x s.now e.now) (triplet_at subspace (path_in path.now count) timestamp))))) }
 {
     let limits = Limits { mcl, mcc, mpl };
-    match range_3d_kinds::read_range_3d(
+    let read = range_3d_kinds::read_range_3d(
         limits,
         subspace_start,
         subspace_end_kind,
@@ -57,16 +57,12 @@ pub fn wotskrale_range_3d_includes_triplet(
         time_start,
         time_end_kind,
         time_end,
-    ) {
-        Range3dRead::Refused(r) => asked(Asked::Refused(r)),
-        Range3dRead::Is(a) => {
-            let r = includes_triplet(limits, a, s, e, subspace, path, count, timestamp);
-            asked(r)
-        }
-    }
+    );
+    answered(read.and_then(|a| includes_triplet(limits, a, s, e, subspace, path, count, timestamp)))
 }
 
-// Whether an entry of this subspace, path and timestamp can prune entries of a 3d range.
+// Whether an entry of this subspace, path and timestamp can prune entries of a 3d range. Longer than 40 lines by its arguments alone, as
+// the two below.
 pub fn wotskrale_range_3d_could_be_pruned_by_triplet(
     mcl: u64,
     mcc: u64,
@@ -90,7 +86,7 @@ pub fn wotskrale_range_3d_could_be_pruned_by_triplet(
     ensures { result ≡ given yes_number (on_kinds (limits_of mcl mcc mpl) (parts3d_from subspace_start subspace_end_kind subspace_end start_count path_end_kind end_count time_start time_end_kind time_end) (λ x. on_lent (limits_of mcl mcc mpl) (range_paths x.paths s.now e.now ++ ((path.now, count) ∷ [])) (value (range3d_prunable (range3d_with x s.now e.now) (triplet_at subspace (path_in path.now count) timestamp))))) }
 {
     let limits = Limits { mcl, mcc, mpl };
-    match range_3d_kinds::read_range_3d(
+    let read = range_3d_kinds::read_range_3d(
         limits,
         subspace_start,
         subspace_end_kind,
@@ -101,13 +97,10 @@ pub fn wotskrale_range_3d_could_be_pruned_by_triplet(
         time_start,
         time_end_kind,
         time_end,
-    ) {
-        Range3dRead::Refused(r) => asked(Asked::Refused(r)),
-        Range3dRead::Is(a) => {
-            let r = could_be_pruned_by_triplet(limits, a, s, e, subspace, path, count, timestamp);
-            asked(r)
-        }
-    }
+    );
+    answered(read.and_then(|a| could_be_pruned_by_triplet(
+        limits, a, s, e, subspace, path, count, timestamp,
+    )))
 }
 
 // Whether a 3d range includes another.
@@ -141,7 +134,7 @@ pub fn wotskrale_range_3d_includes_range(
     ensures { result ≡ given yes_number (on_kinds (limits_of mcl mcc mpl) (both (parts3d_from subspace_start subspace_end_kind subspace_end start_count path_end_kind end_count time_start time_end_kind time_end) (parts3d_from subspace_start2 subspace_end_kind2 subspace_end2 start_count2 path_end_kind2 end_count2 time_start2 time_end_kind2 time_end2)) (λ x. on_lent (limits_of mcl mcc mpl) (range_paths x.0.paths s.now e.now ++ range_paths x.1.paths s2.now e2.now) (value (includes_range3d (range3d_with x.0 s.now e.now) (range3d_with x.1 s2.now e2.now))))) }
 {
     let limits = Limits { mcl, mcc, mpl };
-    match range_3d_kinds::read_ranges_3d(
+    let read = range_3d_kinds::read_ranges_3d(
         limits,
         subspace_start,
         subspace_end_kind,
@@ -161,10 +154,8 @@ pub fn wotskrale_range_3d_includes_range(
         time_start2,
         time_end_kind2,
         time_end2,
-    ) {
-        Ranges3dRead::Refused(r) => asked(Asked::Refused(r)),
-        Ranges3dRead::Are(a, b) => asked(includes_range(limits, a, s, e, b, s2, e2)),
-    }
+    );
+    answered(read.and_then(|(a, b)| includes_range(limits, a, s, e, b, s2, e2)))
 }
 
 // The order of two 3d ranges.
@@ -198,7 +189,7 @@ pub fn wotskrale_range_3d_compare(
     ensures { result ≡ given order_number (on_kinds (limits_of mcl mcc mpl) (both (parts3d_from subspace_start subspace_end_kind subspace_end start_count path_end_kind end_count time_start time_end_kind time_end) (parts3d_from subspace_start2 subspace_end_kind2 subspace_end2 start_count2 path_end_kind2 end_count2 time_start2 time_end_kind2 time_end2)) (λ x. on_lent (limits_of mcl mcc mpl) (range_paths x.0.paths s.now e.now ++ range_paths x.1.paths s2.now e2.now) (value (compare_ranges3d (range3d_with x.0 s.now e.now) (range3d_with x.1 s2.now e2.now))))) }
 {
     let limits = Limits { mcl, mcc, mpl };
-    match range_3d_kinds::read_ranges_3d(
+    let read = range_3d_kinds::read_ranges_3d(
         limits,
         subspace_start,
         subspace_end_kind,
@@ -218,8 +209,6 @@ pub fn wotskrale_range_3d_compare(
         time_start2,
         time_end_kind2,
         time_end2,
-    ) {
-        Ranges3dRead::Refused(r) => compared(Compared::Refused(r)),
-        Ranges3dRead::Are(a, b) => compared(compare(limits, a, s, e, b, s2, e2)),
-    }
+    );
+    answered(read.and_then(|(a, b)| compare(limits, a, s, e, b, s2, e2)))
 }

@@ -1,27 +1,25 @@
 // An area as a 3d range (`range_3d_intersection`, `from_area`) for a host in another language. The area is passed as in `host_area`;
 // the call refuses 1, then 3, then 5, then 15. Nothing is required of the host but that a buffer is as long as it says and that the buffer
-// to write overlaps no other.
-#![tactic(auto)]
+// to write overlaps no other. The parts come one by one, and the answer is a struct of numbers, as a call for C passes them.
+#![tactic(auto, unfolding(kinds::specs::Kinds::on_kinds))]
 
 ghost use Rattle.std.specs.Prelude.{◌≡◌};
-ghost use Rattle.willow.specs.Answers.{on_path, packed_outcome, path_in, written_buffer, written_length};
+ghost use Rattle.willow.specs.Answers.{on_path, outcome_by, packed_outcome, path_in, written_buffer, written_length};
 ghost use Rattle.willow.specs.Ranges3d.{range3d_from};
 ghost use Rattle.convention.specs.Exports.{limits_of};
 ghost use Rattle.kinds.specs.Kinds.{on_kinds};
 ghost use Rattle.least.specs.Places.{next_greater_of};
 ghost use Rattle.area_kinds.specs.AreaKinds.{area_from, area_with};
-ghost use Rattle.range_3d_intersection.specs.Sides3d.{converted_after, converted_outcome, counts_at, counts_of};
-ghost use Rattle.host_range_3d_conversion.specs.ConversionExports.{counts_answer, given_counts, no_range};
+ghost use Rattle.range_3d_intersection.specs.Sides3d.{converted, converted_after, counts_at};
+ghost use Rattle.host_range_3d_conversion.specs.ConversionExports.{given_counts};
 
-use area_kinds::AreaRead;
 use range_3d::Range3d;
-use range_3d_intersection::Converted;
-use willow::Limits;
+use willow::{Limits, Refusal};
 
 // An area as a 3d range: 0 or a refusal's number; its ranges of numbers; the counts of its paths, where the start is the area's own
 // path and the end was written; and how many bytes were written. Zeros unless there is one, and 0 beside kind 0.
 #[repr(C)]
-#[derive(Clone, Copy)]
+#[derive(Clone, Copy, Default)]
 pub struct ConvertedAnswer {
     pub status: u64,
     pub subspace_start: u64,
@@ -36,58 +34,30 @@ pub struct ConvertedAnswer {
     pub time_end: u64,
 }
 
-// An area as a 3d range, and how many bytes were written.
-fn given_range(m: Range3d, written: u64) -> ConvertedAnswer
-    ensures { result ≡ counts_answer (counts_of m) written }
-{
-    let subspaces = m.subspaces;
-    let subspace_end = subspaces.end;
-    let paths = m.paths;
-    let path_end = paths.end;
-    let end = range_3d_kinds::counted_end(path_end);
-    let times = m.times;
-    let time_end = times.end;
-    ConvertedAnswer {
-        status: 0,
-        subspace_start: subspaces.start,
-        subspace_end_kind: kinds::end_kind(subspace_end),
-        subspace_end: kinds::end_value(subspace_end),
-        start_count: paths.start,
-        path_end_kind: kinds::end_kind(end),
-        end_count: kinds::end_value(end),
-        written,
-        time_start: times.start,
-        time_end_kind: kinds::end_kind(time_end),
-        time_end: kinds::end_value(time_end),
-    }
-}
-
-// No 3d range: why.
-fn no_range(status: u64) -> ConvertedAnswer
-    ensures { result ≡ no_range status }
-{
-    ConvertedAnswer {
-        status,
-        subspace_start: 0,
-        subspace_end_kind: 0,
-        subspace_end: 0,
-        start_count: 0,
-        path_end_kind: 0,
-        end_count: 0,
-        written: 0,
-        time_start: 0,
-        time_end_kind: 0,
-        time_end: 0,
-    }
-}
-
 // A 3d range of an area that may have been refused.
-fn converted(c: Converted) -> ConvertedAnswer
-    ensures { result ≡ given_counts (converted_outcome c) }
-{
-    match c {
-        Converted::Refused(r) => no_range(refusals::refusal_number(r)),
-        Converted::Is(m, n) => given_range(m, n),
+impl From<Result<(Range3d<u64>, u64), Refusal>> for ConvertedAnswer {
+    ghost from_gives = { λ c a. a ≡ given_counts (outcome_by converted c) };
+
+    fn from(converted: Result<(Range3d<u64>, u64), Refusal>) -> ConvertedAnswer {
+        match converted {
+            Err(r) => ConvertedAnswer {
+                status: refusals::refusal_number(r),
+                ..ConvertedAnswer::default()
+            },
+            Ok((m, written)) => ConvertedAnswer {
+                status: 0,
+                subspace_start: m.subspaces.start,
+                subspace_end_kind: kinds::end_kind(m.subspaces.end),
+                subspace_end: kinds::end_value(m.subspaces.end),
+                start_count: m.paths.start,
+                path_end_kind: kinds::end_kind(m.paths.end),
+                end_count: kinds::end_value(m.paths.end),
+                written,
+                time_start: m.times.start,
+                time_end_kind: kinds::end_kind(m.times.end),
+                time_end: kinds::end_value(m.times.end),
+            },
+        }
     }
 }
 
@@ -109,8 +79,9 @@ pub fn wotskrale_range_3d_from_area(
     ensures out_after { out.new ≡ written_buffer (packed_outcome (on_kinds (limits_of mcl mcc mpl) (area_from kind id count start end_kind end) (λ a. on_path (limits_of mcl mcc mpl) base.now a.count (next_greater_of (limits_of mcl mcc mpl))))) out.old }
 {
     let limits = Limits { mcl, mcc, mpl };
+    // By hand: with `and_then`, whose closure borrows `out`, the search did not find what the call leaves in `out`.
     match area_kinds::read_area(limits, kind, id, count, start, end_kind, end) {
-        AreaRead::Refused(r) => converted(Converted::Refused(r)),
-        AreaRead::Is(a) => converted(range_3d_intersection::from_area(limits, a, base, out)),
+        Err(r) => ConvertedAnswer::from(Err(r)),
+        Ok(a) => ConvertedAnswer::from(range_3d_intersection::from_area(limits, a, base, out)),
     }
 }

@@ -1,25 +1,26 @@
 // The intersection of two 3d ranges (`range_3d_intersection`) for a host in another language. 3d ranges are passed as in
-// `host_range_3d`; the call refuses 1, then 3, then 5.
-#![tactic(auto)]
+// `host_range_3d`; the call refuses 1, then 3, then 5. The parts come one by one, and the answer is a struct of numbers, as a call for C
+// passes them.
+#![tactic(auto, unfolding(kinds::specs::Kinds::on_kinds))]
 
 ghost use Rattle.std.specs.Prelude.{◌++◌, ◌≡◌};
+ghost use Rattle.willow.specs.Answers.{optional_outcome_by};
 ghost use Rattle.convention.specs.Exports.{limits_of};
-ghost use Rattle.range.specs.NumberRanges.{range_of};
 ghost use Rattle.kinds.specs.Kinds.{both, on_kinds};
 ghost use Rattle.path_bounds.specs.LentPaths.{on_lent};
 ghost use Rattle.path_bounds.specs.LentRanges.{range_paths};
-ghost use Rattle.range_3d_intersection.specs.Sides3d.{met_outcome, sides_met3d};
+ghost use Rattle.range_3d_intersection.specs.Sides3d.{sides_met3d, standing3d_of};
 ghost use Rattle.range_3d_kinds.specs.Range3dKinds.{parts3d_from, range3d_with};
-ghost use Rattle.host_range_3d_intersection.specs.SidesExports.{given_sides, no_sides, sides_answer};
+ghost use Rattle.host_range_3d_intersection.specs.SidesExports.{given_sides};
 
-use range_3d_intersection::{Range3dMet, Sides3d};
-use range_3d_kinds::Ranges3dRead;
-use willow::Limits;
+use path_range_intersection::Side;
+use range_3d::Range3d;
+use willow::{Limits, Refusal};
 
 // An intersection as an answer: 0, a refusal's number or 255 for none; its ranges of numbers; whose start its range of paths has (0
 // the first's, 1 the second's), the kind of its end, and whose end it has. Zeros unless there is one, and 0 beside kind 0.
 #[repr(C)]
-#[derive(Clone, Copy)]
+#[derive(Clone, Copy, Default)]
 pub struct Range3dAnswer {
     pub status: u64,
     pub subspace_start: u64,
@@ -33,60 +34,33 @@ pub struct Range3dAnswer {
     pub time_end: u64,
 }
 
-// An intersection that there is.
-fn given_sides(m: Sides3d) -> Range3dAnswer
-    ensures { result ≡ sides_answer (record { subspaces = range_of m.subspaces; start = m.start; end = m.end; times = range_of m.times }) }
-{
-    let subspaces = m.subspaces;
-    let subspace_end = subspaces.end;
-    let start = m.start;
-    let end = m.end;
-    let times = m.times;
-    let time_end = times.end;
-    Range3dAnswer {
-        status: 0,
-        subspace_start: subspaces.start,
-        subspace_end_kind: kinds::end_kind(subspace_end),
-        subspace_end: kinds::end_value(subspace_end),
-        path_start: side_kinds::side_number(start),
-        path_end_kind: side_kinds::end_side_kind(end),
-        path_end: side_kinds::end_side_number(end),
-        time_start: times.start,
-        time_end_kind: kinds::end_kind(time_end),
-        time_end: kinds::end_value(time_end),
+// What there may not be.
+impl From<Result<Option<Range3d<Side>>, Refusal>> for Range3dAnswer {
+    ghost from_gives = { λ m a. a ≡ given_sides (optional_outcome_by standing3d_of m) };
+
+    fn from(met: Result<Option<Range3d<Side>>, Refusal>) -> Range3dAnswer {
+        match convention::value_or_status(met) {
+            Err(status) => Range3dAnswer {
+                status,
+                ..Range3dAnswer::default()
+            },
+            Ok(x) => Range3dAnswer {
+                status: 0,
+                subspace_start: x.subspaces.start,
+                subspace_end_kind: kinds::end_kind(x.subspaces.end),
+                subspace_end: kinds::end_value(x.subspaces.end),
+                path_start: side_kinds::side_number(x.paths.start),
+                path_end_kind: side_kinds::end_side_kind(x.paths.end),
+                path_end: side_kinds::end_side_number(x.paths.end),
+                time_start: x.times.start,
+                time_end_kind: kinds::end_kind(x.times.end),
+                time_end: kinds::end_value(x.times.end),
+            },
+        }
     }
 }
 
-// No intersection: why.
-fn no_sides(status: u64) -> Range3dAnswer
-    ensures { result ≡ no_sides status }
-{
-    Range3dAnswer {
-        status,
-        subspace_start: 0,
-        subspace_end_kind: 0,
-        subspace_end: 0,
-        path_start: 0,
-        path_end_kind: 0,
-        path_end: 0,
-        time_start: 0,
-        time_end_kind: 0,
-        time_end: 0,
-    }
-}
-
-// An intersection that there may not be.
-fn met(m: Range3dMet) -> Range3dAnswer
-    ensures { result ≡ given_sides (met_outcome m) }
-{
-    match m {
-        Range3dMet::Refused(r) => no_sides(refusals::refusal_number(r)),
-        Range3dMet::Nothing => no_sides(255),
-        Range3dMet::Are(x) => given_sides(x),
-    }
-}
-
-// The 3d range of the triplets that lie in both.
+// The 3d range of the triplets that lie in both. Longer than 40 lines by its arguments alone.
 pub fn wotskrale_range_3d_intersection(
     mcl: u64,
     mcc: u64,
@@ -117,7 +91,7 @@ pub fn wotskrale_range_3d_intersection(
     ensures { result ≡ given_sides (on_kinds (limits_of mcl mcc mpl) (both (parts3d_from subspace_start subspace_end_kind subspace_end start_count path_end_kind end_count time_start time_end_kind time_end) (parts3d_from subspace_start2 subspace_end_kind2 subspace_end2 start_count2 path_end_kind2 end_count2 time_start2 time_end_kind2 time_end2)) (λ x. on_lent (limits_of mcl mcc mpl) (range_paths x.0.paths s.now e.now ++ range_paths x.1.paths s2.now e2.now) (sides_met3d (range3d_with x.0 s.now e.now) (range3d_with x.1 s2.now e2.now)))) }
 {
     let limits = Limits { mcl, mcc, mpl };
-    match range_3d_kinds::read_ranges_3d(
+    let read = range_3d_kinds::read_ranges_3d(
         limits,
         subspace_start,
         subspace_end_kind,
@@ -137,10 +111,8 @@ pub fn wotskrale_range_3d_intersection(
         time_start2,
         time_end_kind2,
         time_end2,
-    ) {
-        Ranges3dRead::Refused(r) => met(Range3dMet::Refused(r)),
-        Ranges3dRead::Are(a, b) => met(range_3d_intersection::intersection(
-            limits, a, s, e, b, s2, e2,
-        )),
-    }
+    );
+    Range3dAnswer::from(read.and_then(|(a, b)| range_3d_intersection::intersection(
+        limits, a, s, e, b, s2, e2,
+    )))
 }

@@ -3,11 +3,12 @@
 #![tactic(auto)]
 
 ghost use Rattle.std.specs.Prelude.{◌≡◌};
+ghost use Rattle.willow.specs.Answers.{outcome_if_any};
 ghost use Rattle.willow.specs.Orders.{compare_numbers, order_number};
 ghost use Rattle.willow.specs.Ranges.{compare_ends, compare_ranges, end_above, includes, includes_range, intersection, new_closed};
 ghost use Rattle.willow.specs.Refusals.{value};
 ghost use Rattle.convention.specs.Exports.{given, yes_number};
-ghost use Rattle.range.specs.NumberRanges.{is_open, range_or};
+ghost use Rattle.range.specs.NumberRanges.{is_open};
 ghost use Rattle.host_range.specs.RangeExports.{given_range, on_end, on_ends, on_range, on_ranges};
 
 use convention::Answer;
@@ -40,7 +41,7 @@ pub extern "C" fn wotskrale_range_is_open(start: u64, kind: u64, end: u64) -> An
 // The range from a start to a value, none where it would include nothing.
 #[unsafe(no_mangle)]
 pub extern "C" fn wotskrale_range_new_closed(start: u64, end: u64) -> RangeAnswer
-    ensures { result ≡ given_range (range_or (new_closed compare_numbers start end)) }
+    ensures { result ≡ given_range (outcome_if_any (new_closed compare_numbers start end)) }
 {
     host_range::wotskrale_range_new_closed(start, end)
 }
@@ -78,7 +79,7 @@ pub extern "C" fn wotskrale_range_intersection(
     kind2: u64,
     end2: u64,
 ) -> RangeAnswer
-    ensures { result ≡ given_range (on_ranges start kind end start2 kind2 end2 (λ s t. range_or (intersection compare_numbers s t))) }
+    ensures { result ≡ given_range (on_ranges start kind end start2 kind2 end2 (λ s t. outcome_if_any (intersection compare_numbers s t))) }
 {
     host_range::wotskrale_range_intersection(start, kind, end, start2, kind2, end2)
 }

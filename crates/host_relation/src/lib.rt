@@ -2,7 +2,7 @@
 // two paths have in common.
 //
 // A slice is a pointer and then a length; limits are three numbers MCL, MCC, MPL. Nothing is required of the host but that a
-// buffer is as long as it says.
+// buffer is as long as it says. The limits come one by one, as a call for C passes them.
 #![tactic(auto)]
 
 ghost use Rattle.std.specs.Prelude.{◌≡◌};
@@ -11,7 +11,7 @@ ghost use Rattle.willow.specs.Orders.{order_number};
 ghost use Rattle.relation.specs.Relation.{common_count_of, equality_of, order_of, prefixed_test_of, prefix_test_of, relatedness_of};
 ghost use Rattle.convention.specs.Exports.{given, itself, limits_of, yes_number};
 
-use convention::{Answer, asked, compared, counted};
+use convention::{Answer, answered};
 use willow::Limits;
 
 // The order of two paths.
@@ -26,7 +26,7 @@ pub fn wotskrale_path_compare(
 ) -> Answer
     ensures { result ≡ given order_number (on_paths (limits_of mcl mcc mpl) a.now ca b.now cb order_of) }
 {
-    compared(relation::compare(Limits { mcl, mcc, mpl }, a, ca, b, cb))
+    answered(relation::compare(Limits { mcl, mcc, mpl }, a, ca, b, cb))
 }
 
 // Whether two paths are equal.
@@ -41,7 +41,7 @@ pub fn wotskrale_path_equal(
 ) -> Answer
     ensures { result ≡ given yes_number (on_paths (limits_of mcl mcc mpl) a.now ca b.now cb equality_of) }
 {
-    asked(relation::equal(Limits { mcl, mcc, mpl }, a, ca, b, cb))
+    answered(relation::equal(Limits { mcl, mcc, mpl }, a, ca, b, cb))
 }
 
 // Whether a is a prefix of b.
@@ -56,7 +56,7 @@ pub fn wotskrale_path_is_prefix_of(
 ) -> Answer
     ensures { result ≡ given yes_number (on_paths (limits_of mcl mcc mpl) a.now ca b.now cb prefix_test_of) }
 {
-    asked(relation::is_prefix_of(Limits { mcl, mcc, mpl }, a, ca, b, cb))
+    answered(relation::is_prefix_of(Limits { mcl, mcc, mpl }, a, ca, b, cb))
 }
 
 // Whether b is a prefix of a.
@@ -71,7 +71,7 @@ pub fn wotskrale_path_is_prefixed_by(
 ) -> Answer
     ensures { result ≡ given yes_number (on_paths (limits_of mcl mcc mpl) a.now ca b.now cb prefixed_test_of) }
 {
-    asked(relation::is_prefixed_by(Limits { mcl, mcc, mpl }, a, ca, b, cb))
+    answered(relation::is_prefixed_by(Limits { mcl, mcc, mpl }, a, ca, b, cb))
 }
 
 // Whether one of the two is a prefix of the other.
@@ -86,7 +86,7 @@ pub fn wotskrale_path_is_related(
 ) -> Answer
     ensures { result ≡ given yes_number (on_paths (limits_of mcl mcc mpl) a.now ca b.now cb relatedness_of) }
 {
-    asked(relation::is_related(Limits { mcl, mcc, mpl }, a, ca, b, cb))
+    answered(relation::is_related(Limits { mcl, mcc, mpl }, a, ca, b, cb))
 }
 
 // How many components the longest common prefix has.
@@ -101,5 +101,5 @@ pub fn wotskrale_path_longest_common_prefix(
 ) -> Answer
     ensures { result ≡ given itself (on_paths (limits_of mcl mcc mpl) a.now ca b.now cb common_count_of) }
 {
-    counted(relation::longest_common_prefix(Limits { mcl, mcc, mpl }, a, ca, b, cb))
+    answered(relation::longest_common_prefix(Limits { mcl, mcc, mpl }, a, ca, b, cb))
 }

@@ -3,7 +3,7 @@
 // A store is a sheet in a lent buffer; its limits, its capacity and its namespace stand in it. An entry is its namespace, its
 // subspace, a packed path with its count, its timestamp, its payload length and its digest, in this order. A slice is a pointer and
 // then a length, a digest a pointer to 32 bytes. Nothing is required of the host but that a buffer is as long as it says and that a
-// buffer to write overlaps no other.
+// buffer to write overlaps no other. The parts come one by one, and the answer is a struct of numbers, as a call for C passes them.
 #![tactic(auto)]
 
 ghost use Rattle.std.specs.Prelude.{◌≡◌};
@@ -15,14 +15,15 @@ ghost use Rattle.store_law.specs.Offers.{answer_in, fresh_store, leaves_in};
 ghost use Rattle.store_answers.specs.Calls.{answer_of};
 ghost use Rattle.host_store.specs.StoreExports.{given_offer};
 
-use convention::{Answer, counted, tested};
+use convention::{Answer, answered, tested};
+use entry::Head;
 use store_answers::Offered;
-use willow::Limits;
+use willow::{Limits, Refusal};
 
 // What an offer is answered: 0 or a refusal's number; taken 0, outdated 1 or repeat 2; how many entries a taken offer pruned. Zeros
 // behind a refusal.
 #[repr(C)]
-#[derive(Clone, Copy)]
+#[derive(Clone, Copy, Default)]
 pub struct OfferAnswer {
     pub status: u64,
     pub answer: u64,
@@ -30,29 +31,25 @@ pub struct OfferAnswer {
 }
 
 // An offer's answer as numbers.
-fn offered(o: Offered) -> OfferAnswer
+fn offered(o: Result<Offered, Refusal>) -> OfferAnswer
     ensures { result ≡ given_offer (answer_of o) }
 {
     match o {
-        Offered::Refused(why) => OfferAnswer {
+        Err(why) => OfferAnswer {
             status: refusals::refusal_number(why),
-            answer: 0,
-            pruned: 0,
+            ..OfferAnswer::default()
         },
-        Offered::Outdated => OfferAnswer {
-            status: 0,
+        Ok(Offered::Outdated) => OfferAnswer {
             answer: 1,
-            pruned: 0,
+            ..OfferAnswer::default()
         },
-        Offered::Repeat => OfferAnswer {
-            status: 0,
+        Ok(Offered::Repeat) => OfferAnswer {
             answer: 2,
-            pruned: 0,
+            ..OfferAnswer::default()
         },
-        Offered::Taken(k) => OfferAnswer {
-            status: 0,
-            answer: 0,
+        Ok(Offered::Taken(k)) => OfferAnswer {
             pruned: k,
+            ..OfferAnswer::default()
         },
     }
 }
@@ -69,7 +66,7 @@ pub fn wotskrale_store_fresh(
     ensures value { result ≡ given itself (written_length (fresh_store (record { limits = limits_of mcl mcc mpl; capacity = capacity; namespace = namespace })) out.old) }
     ensures out_after { out.new ≡ written_buffer (fresh_store (record { limits = limits_of mcl mcc mpl; capacity = capacity; namespace = namespace })) out.old }
 {
-    counted(store_making::fresh(Limits { mcl, mcc, mpl }, capacity, namespace, out))
+    answered(store_making::fresh(Limits { mcl, mcc, mpl }, capacity, namespace, out))
 }
 
 // Whether a buffer begins with a store: 0 or 2.
@@ -93,6 +90,6 @@ pub fn wotskrale_store_offer(
     ensures value { result ≡ given_offer (answer_in sheet.old (offer (record { namespace = namespace; subspace = subspace; timestamp = timestamp; payload_length = payload_length; digest = digest.now; buffer = path.now; count = count }))) }
     ensures sheet_after { sheet.new ≡ leaves_in sheet.old (offer (record { namespace = namespace; subspace = subspace; timestamp = timestamp; payload_length = payload_length; digest = digest.now; buffer = path.now; count = count })) }
 {
-    let head = entry::new(subspace, timestamp, payload_length, digest);
+    let head = Head::new(subspace, timestamp, payload_length, digest);
     offered(store::offer(sheet, namespace, head, path, count))
 }

@@ -1,16 +1,11 @@
--- An entry is answered by its count, or why there is none, and its head.
-use Prim.Native.Nat.{ℕ}
-use mathlib.Core.Path.{◌≡◌, refl, ◌∙◌}
+-- An entry is answered by its count and its head.
+use Rattle.std.proofs.Common.{◌≡◌, refl}
 use Rattle.willow.specs.Entries.{Entry}
 use Rattle.willow.specs.Refusals.{Outcome, refused, absent, value}
-use Rattle.entry.specs.declared.Head.{Head}
-use Rattle.store_reading.specs.Held.{components_of, head_or}
-use Rattle.host_store_reading.specs.ReadingExports.{given_entry, given_parts}
+use Rattle.store_reading.specs.Held.{components_of, head_or, held_with}
+use Rattle.host_store_reading.specs.ReadingExports.{given_entry, given_held}
 
-parts_given : (o : Outcome Entry) → given_parts (components_of o) (head_or o) ≡ given_entry o
-parts_given (refused r) = refl
-parts_given absent = refl
-parts_given (value e) = refl
-
-pub entry_given : (k : Outcome ℕ) (h : Head) (o : Outcome Entry) → k ≡ components_of o → h ≡ head_or o → given_parts k h ≡ given_entry o
-entry_given k h o p q = (λ i. given_parts (p i) (q i)) ∙ parts_given o
+pub entry_given : (o : Outcome Entry) → given_held (held_with (head_or o) (components_of o)) ≡ given_entry o
+entry_given (refused r) = refl
+entry_given absent = refl
+entry_given (value e) = refl

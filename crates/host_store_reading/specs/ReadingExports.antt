@@ -3,7 +3,7 @@ use Rattle.std.specs.Prelude.{ℕ, length, replicate}
 use Rattle.willow.specs.Entries.{Entry}
 use Rattle.willow.specs.Refusals.{refusal_number, Outcome, refused, absent, value}
 use Rattle.convention.specs.Exports.{answered_status, none_status}
-use Rattle.entry.specs.declared.Head.{Head}
+use Rattle.store_reading.specs.declared.HeldEntry.{HeldEntry}
 use Rattle.store_reading.specs.declared.StoreNumbers.{StoreNumbers}
 use Rattle.host_store_reading.specs.declared.StoreAnswer.{StoreAnswer}
 use Rattle.host_store_reading.specs.declared.EntryAnswer.{EntryAnswer}
@@ -66,19 +66,18 @@ given_entry (refused r) = no_entry (refusal_number r)
 given_entry absent = no_entry none_status
 given_entry (value e) = entry_answer e
 
--- The same from what the code reads of an entry: how many components its path has, or why there is none; and its head beside it, which
--- is read only where there is one.
-abbrev pub head_answer : ℕ → Head → EntryAnswer
-head_answer count h = record {
+-- The same from what the code answers of an entry: how many components its path has, and its head.
+abbrev pub held_answer : HeldEntry → EntryAnswer
+held_answer e = record {
   status = answered_status;
-  subspace = h.subspace;
-  timestamp = h.timestamp;
-  payload_length = h.payload_length;
-  count = count;
-  digest = h.digest;
+  subspace = e.head.subspace;
+  timestamp = e.head.timestamp;
+  payload_length = e.head.payload_length;
+  count = e.count;
+  digest = e.head.digest;
 }
 
-abbrev pub given_parts : Outcome ℕ → Head → EntryAnswer
-given_parts (refused r) h = no_entry (refusal_number r)
-given_parts absent h = no_entry none_status
-given_parts (value count) h = head_answer count h
+abbrev pub given_held : Outcome HeldEntry → EntryAnswer
+given_held (refused r) = no_entry (refusal_number r)
+given_held absent = no_entry none_status
+given_held (value e) = held_answer e

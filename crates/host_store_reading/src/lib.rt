@@ -1,23 +1,22 @@
 // The calls of `store_reading` for a host in another language: the numbers of a store, and its entries by their position from 0. A
 // slice is a pointer and then a length. Nothing is required of the host but that a buffer is as long as it says and that a buffer to
-// write overlaps no other.
-#![tactic(auto)]
+// write overlaps no other. The answers are structs of numbers, as a call for C passes them.
+#![tactic(auto, using(crate::proofs::AnswerLaws::entry_given))]
 
 ghost use Rattle.std.specs.Prelude.{◌≡◌};
-ghost use Rattle.willow.specs.Answers.{counted_outcome, written_buffer, written_length};
+ghost use Rattle.willow.specs.Answers.{optional_outcome, outcome, written_buffer, written_length};
 ghost use Rattle.convention.specs.Exports.{given, itself};
-ghost use Rattle.store_reading.specs.Held.{entry_read, numbers_outcome, numbers_read, packed_of};
-ghost use Rattle.host_store_reading.specs.ReadingExports.{given_entry, given_numbers, given_parts, head_answer, no_entry};
+ghost use Rattle.store_reading.specs.Held.{entry_read, numbers_read, packed_of};
+ghost use Rattle.host_store_reading.specs.ReadingExports.{given_entry, given_held, given_numbers};
 
-use convention::{Answer, counted};
-use entry::Head;
-use store_reading::{EntryRead, NumbersRead};
-use willow::Counted;
+use convention::{Answer, answered_if_any};
+use store_reading::{HeldEntry, StoreNumbers};
+use willow::Refusal;
 
 // The numbers of a store: 0 or 2; its limits and capacity, how many entries it holds, its namespace, and the bytes held and let go.
 // Zeros behind a refusal.
 #[repr(C)]
-#[derive(Clone, Copy)]
+#[derive(Clone, Copy, Default)]
 pub struct StoreAnswer {
     pub status: u64,
     pub mcl: u64,
@@ -32,7 +31,7 @@ pub struct StoreAnswer {
 
 // An entry: 0, 2, or 255 for none; its head, and how many components its path has. Zeros unless there is one.
 #[repr(C)]
-#[derive(Clone, Copy)]
+#[derive(Clone, Copy, Default)]
 pub struct EntryAnswer {
     pub status: u64,
     pub subspace: u64,
@@ -43,22 +42,15 @@ pub struct EntryAnswer {
 }
 
 // The numbers of a store, as they are answered.
-fn numbers_read(n: NumbersRead) -> StoreAnswer
-    ensures { result ≡ given_numbers (numbers_outcome n) }
+fn numbers_read(n: Result<StoreNumbers, Refusal>) -> StoreAnswer
+    ensures { result ≡ given_numbers (outcome n) }
 {
     match n {
-        NumbersRead::Refused(why) => StoreAnswer {
+        Err(why) => StoreAnswer {
             status: refusals::refusal_number(why),
-            mcl: 0,
-            mcc: 0,
-            mpl: 0,
-            capacity: 0,
-            count: 0,
-            namespace: 0,
-            held: 0,
-            let_go: 0,
+            ..StoreAnswer::default()
         },
-        NumbersRead::Is(x) => StoreAnswer {
+        Ok(x) => StoreAnswer {
             status: 0,
             mcl: x.limits.mcl,
             mcc: x.limits.mcc,
@@ -72,45 +64,31 @@ fn numbers_read(n: NumbersRead) -> StoreAnswer
     }
 }
 
-// No entry: why.
-fn no_entry(status: u64) -> EntryAnswer
-    ensures { result ≡ no_entry status }
-{
-    EntryAnswer {
-        status,
-        subspace: 0,
-        timestamp: 0,
-        payload_length: 0,
-        count: 0,
-        digest: [0u8; 32],
-    }
-}
-
-// An entry that there is, of this count and head.
-fn given_head(count: u64, head: Head) -> EntryAnswer
-    ensures { result ≡ head_answer count head }
-{
-    let digest = head.digest;
-    EntryAnswer {
-        status: 0,
-        subspace: head.subspace,
-        timestamp: head.timestamp,
-        payload_length: head.payload_length,
-        count,
-        digest,
-    }
-}
-
 // An entry that there may not be.
-fn entry_read(e: EntryRead) -> EntryAnswer
-    ensures { result ≡ given_parts (counted_outcome e.count) e.head }
-{
-    let count = e.count;
-    let head = e.head;
-    match count {
-        Counted::Refused(why) => no_entry(refusals::refusal_number(why)),
-        Counted::Nothing => no_entry(255),
-        Counted::Count(n) => given_head(n, head),
+impl From<Result<Option<HeldEntry>, Refusal>> for EntryAnswer {
+    ghost from_gives = { λ e a. a ≡ given_held (optional_outcome e) };
+
+    fn from(read: Result<Option<HeldEntry>, Refusal>) -> EntryAnswer {
+        match convention::value_or_status(read) {
+            Err(status) => EntryAnswer {
+                status,
+                // `default` tells of an array element by element, which the search does not make 32 zeros of.
+                digest: [0; 32],
+                ..EntryAnswer::default()
+            },
+            Ok(held) => {
+                let head = held.head;
+                let digest = head.digest;
+                EntryAnswer {
+                    status: 0,
+                    subspace: head.subspace,
+                    timestamp: head.timestamp,
+                    payload_length: head.payload_length,
+                    count: held.count,
+                    digest,
+                }
+            }
+        }
     }
 }
 
@@ -125,7 +103,7 @@ pub fn wotskrale_store_numbers(sheet: &[u8]) -> StoreAnswer
 pub fn wotskrale_store_entry(sheet: &[u8], i: u64) -> EntryAnswer
     ensures { result ≡ given_entry (entry_read sheet.now i) }
 {
-    entry_read(store_reading::entry(sheet, i))
+    EntryAnswer::from(store_reading::entry(sheet, i))
 }
 
 // The packed path of entry i written to the front of a buffer; answers its length, none past the last. Refuses 2, then 15.
@@ -133,5 +111,5 @@ pub fn wotskrale_store_entry_path(sheet: &[u8], i: u64, out: &mut [u8]) -> Answe
     ensures value { result ≡ given itself (written_length (packed_of (entry_read sheet.now i)) out.old) }
     ensures out_after { out.new ≡ written_buffer (packed_of (entry_read sheet.now i)) out.old }
 {
-    counted(store_reading::write_entry_path(sheet, i, out))
+    answered_if_any(store_reading::write_entry_path(sheet, i, out))
 }

@@ -7,8 +7,8 @@
 
 #![tactic(auto)]
 
-ghost use Rattle.std.specs.Prelude.{false, Ok, OnOk, true, ◌≡◌};
-ghost use Rattle.keyform.specs.Answering.{held_after};
+ghost use Rattle.std.specs.Prelude.{[], false, length, Ok, OnOk, take, true, ◌≡◌, ◌≤◌};
+ghost use Rattle.keyform.specs.Answering.{held_after, kept};
 ghost use Rattle.key.specs.Brought.{brought_in};
 
 use keyask::inner::Room;
@@ -19,86 +19,81 @@ use std::io::{ErrorKind, Read, Stdin, Stdout};
 // The most bytes that one read brings, and that one write writes: more than any answer has.
 const CHUNK: usize = 65536;
 
-// The bytes of a chunk: the answers to the lines that it ends are written, as many at a time as there is room for. Unless a write
-// fails the whole chunk is taken.
-fn answer_chunk(
-    to: &Stdout,
-    pending: &mut Pending,
-    chunk: &[u8],
-    room: &mut Room,
-    out: &mut [u8; CHUNK],
-) -> io::Result<()>
-    ensures { OnOk result (pending.new ≡ held_after pending.old chunk.now) }
-{
-    let mut rest = chunk;
-    while !rest.is_empty() {
-        let fed = pending.feed(rest, room, out);
-        to.write_all(&out[..fed.written])?;
-        rest = &rest[fed.used..];
-    }
-    Ok(())
+// What the marking goes on with: what is held of a line, the room to answer it in, the chunk that a read brings, and the answers to
+// write. The chunk is lent to each read, so that it is cleared once.
+#[derive(Drop)]
+struct Marking {
+    pending: Pending,
+    room: Room,
+    chunk: [u8; CHUNK],
+    out: [u8; CHUNK],
 }
 
-// What the input's end adds.
-fn answer_last(
-    to: &Stdout,
-    pending: &Pending,
-    room: &mut Room,
-    out: &mut [u8; CHUNK],
-) -> io::Result<()> {
-    let n = pending.finish(room, out);
-    to.write_all(&out[..n])
-}
-
-// What a read brought: `got` bytes at the front of the chunk, none where the input has ended, or an error where it failed. Whether
-// there is more to read.
-fn answer_read(
-    to: &Stdout,
-    got: io::Result<usize>,
-    pending: &mut Pending,
-    chunk: &[u8],
-    room: &mut Room,
-    out: &mut [u8; CHUNK],
-) -> bool
-    ensures leaves { result ≡ true → pending.new ≡ held_after pending.old (brought_in got chunk.now) }
-    ensures more_value { got ≡ Ok 0 → result ≡ false }
-{
-    match got {
-        // Where a signal came before a byte did, the read is made again.
-        Err(e) => e.kind() == ErrorKind::Interrupted,
-        Ok(0) => {
-            let _ = answer_last(to, pending, room, out);
-            false
-        }
-        Ok(count) => {
-            let n = count.min(chunk.len());
-            answer_chunk(to, pending, &chunk[..n], room, out).is_ok()
+impl Marking {
+    // Nothing has come.
+    fn new() -> Marking
+        ensures { result.pending ≡ kept [] }
+    {
+        Marking {
+            pending: Pending::new(),
+            room: Room::new(),
+            chunk: [0; CHUNK],
+            out: [0; CHUNK],
         }
     }
-}
 
-// One read. Nothing is said of what is held: what a read brings is not known from outside.
-fn turn(
-    from: &mut Stdin,
-    to: &Stdout,
-    pending: &mut Pending,
-    room: &mut Room,
-    out: &mut [u8; CHUNK],
-) -> bool {
-    let mut chunk = [0u8; CHUNK];
-    let got = from.read(&mut chunk);
-    answer_read(to, got, pending, &chunk, room, out)
+    // The first n bytes of the chunk: the answers to the lines that they end are written, as many at a time as there is room for. Unless
+    // a write fails all of them are taken.
+    fn answer_chunk(&mut self, to: &Stdout, n: usize) -> io::Result<()>
+        requires { n ≤ length self.old.chunk }
+        ensures { OnOk result (self.new.pending ≡ held_after self.old.pending (take n self.old.chunk)) }
+    {
+        let mut rest = &self.chunk[..n];
+        while !rest.is_empty() {
+            let fed = self.pending.feed(rest, &mut self.room, &mut self.out);
+            to.write_all(&self.out[..fed.written])?;
+            rest = &rest[fed.used..];
+        }
+        Ok(())
+    }
+
+    // What the input's end adds.
+    fn answer_last(&mut self, to: &Stdout) -> io::Result<()> {
+        let n = self.pending.finish(&mut self.room, &mut self.out);
+        to.write_all(&self.out[..n])
+    }
+
+    // What a read brought: `got` bytes at the front of the chunk, none where the input has ended, or an error where it failed. Whether
+    // there is more to read.
+    fn answer_read(&mut self, to: &Stdout, got: io::Result<usize>) -> bool
+        ensures leaves { result ≡ true → self.new.pending ≡ held_after self.old.pending (brought_in got self.old.chunk) }
+        ensures more_value { got ≡ Ok 0 → result ≡ false }
+    {
+        match got {
+            // Where a signal came before a byte did, the read is made again.
+            Err(e) => e.kind() == ErrorKind::Interrupted,
+            Ok(0) => {
+                let _ = self.answer_last(to);
+                false
+            }
+            Ok(count) => self.answer_chunk(to, count.min(CHUNK)).is_ok(),
+        }
+    }
+
+    // One read. Nothing is said of what is held: what a read brings is not known from outside.
+    fn turn(&mut self, from: &mut Stdin, to: &Stdout) -> bool {
+        let got = from.read(&mut self.chunk);
+        self.answer_read(to, got)
+    }
 }
 
 // The count of turns is there so that the loop is seen to end: no input uses it up.
 fn main(rt: HostRuntime) {
     let mut from = rt.stdin();
     let to = rt.stdout();
-    let mut pending = Pending::new();
-    let mut room = Room::new();
-    let mut out = [0u8; CHUNK];
+    let mut marking = Marking::new();
     for _ in 0..u64::MAX {
-        if !turn(&mut from, &to, &mut pending, &mut room, &mut out) {
+        if !marking.turn(&mut from, &to) {
             break;
         }
     }

@@ -1,27 +1,23 @@
 -- From a text to the outcome of a question on it: the path is read, made, and handed to the call; each step's outcome decides
 -- the next.
 use Prim.Native.Nat.{ℕ, ◌*◌, ◌≤◌}
-use mathlib.Core.Bool.{Bool, true, false, cond}
 use mathlib.Core.List.{List}
 use mathlib.Core.Option.{Option, none, some}
-use mathlib.Core.Path.{◌≡◌, refl, sym, ◌∙◌, ap, subst}
+use mathlib.Core.Path.{◌≡◌, refl, ◌∙◌, ap}
 use native.Mathlib.Omega.{arith}
-use lib.Dec.{ltb}
 use lib.ListN.{length, take}
-use Rattle.std.specs.Prelude.{None, Some, Ok, IsSome}
-use Rattle.std.specs.Prelude as code
-use Rattle.willow.specs.declared.Counted.{Counted}
+use Rattle.std.specs.Prelude.{Some, Result}
 use Rattle.willow.specs.declared.Limits.{Limits}
 use Rattle.willow.specs.declared.Refusal.{Refusal}
-use Rattle.willow.specs.declared.Refusal.TheVariants.{BadKind, PathTooLong, TooManyComponents, ComponentTooLong}
-use Rattle.willow.specs.Answers.{counted_outcome, written_length, written_buffer, packed_outcome, on_path, limits_refusal, unless}
+use Rattle.willow.specs.declared.Refusal.TheVariants.{BadKind}
+use Rattle.willow.specs.Answers.{outcome, path_in, path_refusal, written_length, written_buffer, packed_outcome, on_path, limits_refusal, unless}
 use Rattle.willow.specs.Construction.{admitted}
 use Rattle.willow.specs.Limits.{max_word}
-use Rattle.willow.specs.Lists.{All, any}
+use Rattle.willow.specs.Lists.{All}
 use Rattle.willow.specs.Numbers.{Bytes}
 use Rattle.willow.specs.Packed.{joined}
 use Rattle.willow.specs.Paths.{Path, path_length}
-use Rattle.willow.specs.Refusals.{Outcome, refused, absent, value}
+use Rattle.willow.specs.Refusals.{Outcome, refused, value}
 use Rattle.willow.proofs.PackedLaws.{joined_length}
 use Rattle.number.proofs.OverwritingLaws.{front_written, length_overwrite}
 use Rattle.construction.specs.Making.{under_limits, slices_outcome}
@@ -32,8 +28,8 @@ use Rattle.keyform.specs.Wording as wording
 use Rattle.keyform.proofs.PathTextLaws.{path_written}
 use Rattle.keyread.specs.Parts.{PathRead, sizes}
 use Rattle.keyread.proofs.PieceLaws.{sizes_length}
-use Rattle.keyask.specs.Found.{max_packed, Found, Stands, Finds, Sound, found_as, CountReadable, made_outcome, text_outcome}
-use Rattle.keyask.proofs.FoundLaws.{wrote_found, made_sound, slices_made, on_stands, successor_sound, next_greater_sound}
+use Rattle.keyask.specs.Found.{max_packed, Lends, as_optional, made_outcome, text_outcome}
+use Rattle.keyask.proofs.FoundLaws.{always_some, wrote_found, made_sound, slices_made}
 
 -- THE PATH OF A TEXT, as its lengths and bytes were read
 pub record SlicesRead (s lengths bytes : List ℕ) (k n : ℕ) : Type 0 where
@@ -65,40 +61,18 @@ slices_read s lengths₀ bytes₀ lengths bytes k n (p, read, l, b, count, total
     }
 
 -- .. made by `from_slices`
-pub made_path : (L : Limits) (s lengths bytes : List ℕ) (k n : ℕ) (c : Counted) (before behind : List ℕ) → SlicesRead s lengths bytes k n
+pub made_path : (L : Limits) (s lengths bytes : List ℕ) (k n : ℕ) (c : Result ℕ Refusal) (before behind : List ℕ) → SlicesRead s lengths bytes k n
     → max_packed ≤ length before
-    → counted_outcome c ≡ written_length (packed_outcome (slices_outcome L (take (8 * k) lengths) (take n bytes))) before
+    → outcome c ≡ written_length (packed_outcome (slices_outcome L (take (8 * k) lengths) (take n bytes))) before
     → behind ≡ written_buffer (packed_outcome (slices_outcome L (take (8 * k) lengths) (take n bytes))) before
-    → CountReadable c behind × Finds L (made_outcome L (read_path s)) (found_as c behind) behind
+    → Lends L (made_outcome L (read_path s)) (as_optional c) behind
 made_path L s lengths bytes k n c before behind f room a w =
     let p = f.path in
     let o : slices_outcome L (take (8 * k) lengths) (take n bytes) ≡ under_limits L (admitted L p) =
     ap (λ x. slices_outcome L x (take n bytes)) f.lengths_part ∙ ap (slices_outcome L (sizes p)) f.bytes_part_lem ∙ slices_made L p f.word in
-    let h = wrote_found L (under_limits L (admitted L p)) c before behind (made_sound L p f.each_byte) room
-    (record { answered = a ∙ ap (λ x. written_length (packed_outcome x) before) o; written = w ∙ ap (λ x. written_buffer (packed_outcome x) before) o }) in
-    (h.0, rw f.read h.1)
-
--- .. so there is a path where it is not refused
-never_absent : (L : Limits) (o : Option Path) → made_outcome L o ≡ absent → ⊥
-unfolding under_limits admitted
-never_absent L none e = cc
-never_absent L (some p) e = go (limits_refusal L) (ltb L.mpl (path_length p)) (ltb L.mcc (length p)) (any (λ c. ltb L.mcl (length c)) p) e
-  where
-    go : (r : Option Refusal) (a b c : Bool)
-        → unless r (cond a (refused PathTooLong) (cond b (refused TooManyComponents) (cond c (refused ComponentTooLong) (value p)))) ≡ absent → ⊥
-    go (some r) a b c e = cc
-    go none true b c e = cc
-    go none false true c e = cc
-    go none false false true e = cc
-    go none false false false e = cc
-
-pub some_made : (L : Limits) (o : Option Path) (path : code.Option (ℕ × ℕ)) (buffer : List ℕ) → Finds L (made_outcome L o) (Ok path) buffer → IsSome path
-some_made L o None buffer e = absurd (never_absent L o e)
-some_made L o (Some path) buffer f = refl
-
--- what was found, as the answer has it
-pub found_is : (L : Limits) (o : Outcome Path) (buffer : List ℕ) (r f g : Found) → r ≡ f → r ≡ g → Finds L o f buffer → Finds L o g buffer
-found_is L o buffer r f g e h = subst (λ x. Finds L o x buffer) (sym e ∙ h)
+    let h = wrote_found L (under_limits L (admitted L p)) (as_optional c) before behind (made_sound L p f.each_byte) room
+    (record { answered = always_some c ∙ a ∙ ap (λ x. written_length (packed_outcome x) before) o; written = w ∙ ap (λ x. written_buffer (packed_outcome x) before) o }) in
+    rw f.read h
 
 -- A QUESTION on a path that was made: what is refused is handed on.
 abbrev asked_by : Limits → Option Path → (Path → Outcome Path) → Outcome Path
@@ -132,16 +106,10 @@ module _ (L : Limits) (s : List ℕ) (ask : Path → Outcome Path) (whole : Outc
   asked_refused : (r : Refusal) → made_outcome L (read_path s) ≡ refused r → whole ≡ refused r
   asked_refused r e = handed_on ∙ ap (λ o. on_made o ask) e
 
-  asked_path : (p : Path) (size k : ℕ) (packed : List ℕ) (c : Counted) (before behind : List ℕ) → made_outcome L (read_path s) ≡ value p
-      → Stands L p size k packed → Sound L (ask p) → max_packed ≤ length before
-      → counted_outcome c ≡ written_length (packed_outcome (on_path L (take size packed) k ask)) before
-      → behind ≡ written_buffer (packed_outcome (on_path L (take size packed) k ask)) before
-      → CountReadable c behind × Finds L whole (found_as c behind) behind
-  asked_path p size k packed c before behind e st sound room a w =
-      let o : on_path L (take size packed) k ask ≡ whole = on_stands L p size k packed ask st ∙ sym (handed_on ∙ ap (λ x. on_made x ask) e) in
-      let sw : Sound L whole = subst (Sound L) (sym (handed_on ∙ ap (λ x. on_made x ask) e)) sound in
-      wrote_found L whole c before behind sw room
-      (record { answered = a ∙ ap (λ x. written_length (packed_outcome x) before) o; written = w ∙ ap (λ x. written_buffer (packed_outcome x) before) o })
+  -- .. and on a path that passed the tests it is the call's
+  asked_path : (b : List ℕ) (k : ℕ) → path_refusal L b k ≡ none → made_outcome L (read_path s) ≡ value (path_in b k) → whole ≡ on_path L b k ask
+  unfolding on_path
+  asked_path b k r e = handed_on ∙ ap (λ o. on_made o ask) e ∙ rw r refl
 
 module _ (L : Limits) (s : List ℕ) where
   successor_means : text_outcome L wording.successor_of s ≡ asked_by L (read_path s) (least.successor_of L)
@@ -156,18 +124,9 @@ module _ (L : Limits) (s : List ℕ) where
   pub next_greater_refused : (r : Refusal) → made_outcome L (read_path s) ≡ refused r → text_outcome L wording.next_greater_of s ≡ refused r
   next_greater_refused = asked_refused L s (least.next_greater_of L) (text_outcome L wording.next_greater_of s) next_greater_means
 
-  module _ (p : Path) (size k : ℕ) (packed : List ℕ) (c : Counted) (before behind : List ℕ) (e : made_outcome L (read_path s) ≡ value p)
-      (st : Stands L p size k packed) (room : max_packed ≤ length before) where
-    pub successor_found : counted_outcome c ≡ written_length (packed_outcome (on_path L (take size packed) k (least.successor_of L))) before
-        → behind ≡ written_buffer (packed_outcome (on_path L (take size packed) k (least.successor_of L))) before
-        → CountReadable c behind × Finds L (text_outcome L wording.successor_of s) (found_as c behind) behind
-    successor_found =
-        asked_path L s (least.successor_of L) (text_outcome L wording.successor_of s) successor_means p size k packed c before behind e st
-        (successor_sound L p st.accepted st.valid) room
+  module _ (b : List ℕ) (k : ℕ) (r : path_refusal L b k ≡ none) (e : made_outcome L (read_path s) ≡ value (path_in b k)) where
+    pub successor_put : text_outcome L wording.successor_of s ≡ on_path L b k (least.successor_of L)
+    successor_put = asked_path L s (least.successor_of L) (text_outcome L wording.successor_of s) successor_means b k r e
 
-    pub next_greater_found : counted_outcome c ≡ written_length (packed_outcome (on_path L (take size packed) k (least.next_greater_of L))) before
-        → behind ≡ written_buffer (packed_outcome (on_path L (take size packed) k (least.next_greater_of L))) before
-        → CountReadable c behind × Finds L (text_outcome L wording.next_greater_of s) (found_as c behind) behind
-    next_greater_found =
-        asked_path L s (least.next_greater_of L) (text_outcome L wording.next_greater_of s) next_greater_means p size k packed c before behind e st
-        (next_greater_sound L p st.accepted st.valid) room
+    pub next_greater_put : text_outcome L wording.next_greater_of s ≡ on_path L b k (least.next_greater_of L)
+    next_greater_put = asked_path L s (least.next_greater_of L) (text_outcome L wording.next_greater_of s) next_greater_means b k r e

@@ -121,7 +121,7 @@ module _ (line : List ℕ) (w : Wording) (f : OfForm line w) where
   }
 
 -- A LINE OF ANOTHER FORM is too long, or is not read.
-other_form_lem : (line : List ℕ) → ((w : Wording) → OfForm line w → ⊥) → line_outcome line ≡ refused BadKind
+pub other_form_lem : (line : List ℕ) → ((w : Wording) → OfForm line w → ⊥) → line_outcome line ≡ refused BadKind
 unfolding line_outcome
 other_form_lem line n = by_test (λ o. o ≡ refused BadKind) _
     (λ e. unread (read_line line) refl (leb-true _ _ e))

@@ -1,22 +1,28 @@
 -- What the functions that answer an input hold and write, in the words of crate `keyform`.
-use Rattle.std.specs.Prelude.{ℕ, ◌+◌, ◌≤◌, List, ◌⊎◌, ◌≡◌, Option, None, Some, length, take, unwrap_or}
+use Rattle.std.specs.Prelude.{ℕ, ◌+◌, ◌≤◌, List, [], ◌∷◌, ◌⊎◌, ◌≡◌, Option, None, Some, IfSome, length, take}
+use Rattle.arrayvec.specs.ArrayVec.{ArrayVec}
 use Rattle.number.specs.Overwriting.{overwrite}
-use Rattle.keyform.specs.Answering.{max_answer, Held, kept, overlong, held_after, printed_by}
+use Rattle.keyform.specs.Answering.{max_answer, Held, kept, overlong, longer, held_after, printed_by}
 use Rattle.keyform.specs.Wording.{max_line}
 use Rattle.keyinput.specs.declared.inner.Fed.{Fed}
 use Rattle.keyinput.specs.declared.inner.Pending.TheInside.{Inside}
 
--- What is held of a line: its bytes at the front of the buffer, or that it is too long.
-abbrev pub held_as : Option ℕ → List ℕ → Held
-held_as None line = overlong
-held_as (Some n) line = kept (take n line)
+-- What is held of a line: its bytes, or that it is too long.
+abbrev pub held_as : Option (ArrayVec ℕ) → Held
+held_as None = overlong
+held_as (Some v) = kept v.items
 
 abbrev pub held_in : Inside → Held
-held_in p = held_as p.len p.line
+held_in p = held_as p.line
 
--- There are no more bytes than a line may have.
+-- There are no more bytes than a line may have. The vector has room for no more, but that is known of it only where it is asked.
 abbrev pub Within : Inside → Type 0
-Within p = unwrap_or p.len 0 ≤ max_line
+Within p = IfSome p.line (λ v. length v.items ≤ max_line)
+
+-- What is held of a line when bytes of it have come, none of them its newline.
+abbrev pub longer_by : Held → List ℕ → Held
+longer_by h [] = h
+longer_by h (b ∷ bs) = longer_by (longer h b) bs
 
 -- What taking bytes has done: their answers are written from a place on, and what they leave of a line is held.
 pub record Takes (h : Held) (taken out : List ℕ) (to : ℕ) (h' : Held) (place : ℕ) (out' : List ℕ) : Type 0 where

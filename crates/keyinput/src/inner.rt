@@ -1,21 +1,21 @@
 // An input of lines that comes in chunks: what has come of a line is held until its newline, and then answered. Nothing here is open
-// to a caller: the buffer for the answers must be long enough. That is asked of a buffer and a place in it, which goes on with each
-// answer: a struct of both would hold it no longer than a call.
+// to a caller: the buffer for the answers must be long enough. A place goes in and the next comes out: a writer that holds both would
+// need the same premise anew after each write.
 
-ghost use Rattle.std.specs.Prelude.{[], ◌∷◌, ◌≡◌, ◌+◌, ◌≤◌, length};
+ghost use Rattle.std.specs.Prelude.{[], ◌≡◌, ◌+◌, ◌≤◌, length};
 ghost use Rattle.number.specs.Overwriting.{overwrite};
-ghost use Rattle.keyform.specs.Answering.{held_answer, kept, longer, max_answer, printed_at_end};
+ghost use Rattle.keyform.specs.Answering.{held_answer, kept, max_answer, printed_at_end};
 
+use arrayvec::ArrayVec;
 use keyask::inner::Room;
 use keyform::{MAX_ANSWER, MAX_LINE};
 use std::marker::Model;
 use willow::Refusal;
 
-// What has come of a line: so many bytes at the front of its buffer, or, where more came than a line may have, no more than that.
+// What has come of a line: its bytes, or, where more came than a line may have, no more than that.
 #[derive(Drop)]
 pub struct Pending {
-    line: [u8; MAX_LINE],
-    len: Option<usize>,
+    line: Option<ArrayVec<u8, MAX_LINE>>,
 }
 
 impl Model for Pending {
@@ -38,15 +38,14 @@ pub struct Fed {
 }
 
 impl Pending {
-    ghost use Rattle.keyinput.specs.Held.{Feeds, Takes};
+    ghost use Rattle.keyinput.specs.Held.{Feeds, longer_by};
 
     // Nothing has come.
     pub fn new() -> Pending
         ensures { result ≡ kept [] }
     {
         Pending {
-            line: [0; MAX_LINE],
-            len: Some(0),
+            line: Some(ArrayVec::new()),
         }
     }
 
@@ -54,19 +53,20 @@ impl Pending {
     fn clear(&mut self)
         ensures { self.new ≡ kept [] }
     {
-        self.len = Some(0);
+        match &mut self.line {
+            Some(line) => line.clear(),
+            None => self.line = Some(ArrayVec::new()),
+        }
     }
 
-    // One byte more of a line.
-    fn push(&mut self, b: u8)
-        ensures { self.new ≡ longer self.old b }
+    // Bytes more of a line, none of them its newline.
+    fn extend(&mut self, part: &[u8])
+        ensures { self.new ≡ longer_by self.old part.now }
     {
-        match self.len {
-            Some(n) if n < MAX_LINE => {
-                self.line[n] = b;
-                self.len = Some(n + 1);
+        if let Some(line) = &mut self.line {
+            if line.try_extend_from_slice(part).is_err() {
+                self.line = None;
             }
-            _ => self.len = None,
         }
     }
 
@@ -76,42 +76,45 @@ impl Pending {
         ensures value { result ≡ to + length (held_answer self.now) }
         ensures out_after { out.new ≡ overwrite out.old to (held_answer self.now) }
     {
-        let Some(n) = self.len else {
+        let Some(line) = &self.line else {
             let at = keyshow::inner::put_refused(Refusal::BadKind, out, to);
             out[at] = b'\n';
             return at + 1;
         };
-        keyline::inner::answer_line(&self.line[..n], room, out, to)
+        keyline::inner::answer_line(line.as_slice(), room, out, to)
     }
 
-    // One byte of the input: it ends the line that is held, or makes it longer. The place behind the answers.
-    fn take_byte(&mut self, b: u8, room: &mut Room, out: &mut [u8], to: usize) -> usize
+    // The rest of a line, which its newline ends. The place behind the answer.
+    fn take_line(&mut self, part: &[u8], room: &mut Room, out: &mut [u8], to: usize) -> usize
         requires { to + max_answer + 1 ≤ length out.old }
-        ensures { Takes self.old (b ∷ []) out.old to self.new result out.new }
+        ensures value { result ≡ to + length (held_answer (longer_by self.old part.now)) }
+        ensures out_after { out.new ≡ overwrite out.old to (held_answer (longer_by self.old part.now)) }
+        ensures anew { self.new ≡ kept [] }
     {
-        if b == b'\n' {
-            let at = self.end_line(room, out, to);
-            self.clear();
-            return at;
-        }
-        self.push(b);
-        to
+        self.extend(part);
+        let at = self.end_line(room, out, to);
+        self.clear();
+        at
     }
 
-    // A chunk of the input, as far as there is room for the answers.
+    // A chunk of the input, line by line, as far as there is room for the answers.
     pub fn feed(&mut self, chunk: &[u8], room: &mut Room, out: &mut [u8]) -> Fed
         ensures { Feeds self.old chunk.now out.old result self.new out.new }
     {
         let mut at = 0;
-        for (i, b) in chunk.iter().enumerate() {
+        let mut rest = chunk;
+        while let Some(n) = rest.iter().position(|b| *b == b'\n') {
             if out.len() - at <= MAX_ANSWER {
                 return Fed {
-                    used: i,
+                    used: chunk.len() - rest.len(),
                     written: at,
                 };
             }
-            at = self.take_byte(*b, room, out, at);
+            at = self.take_line(&rest[..n], room, out, at);
+            rest = &rest[n + 1..];
         }
+        // Behind the last newline nothing is answered, so that no room is needed.
+        self.extend(rest);
         Fed {
             used: chunk.len(),
             written: at,
@@ -125,8 +128,8 @@ impl Pending {
         ensures value { result ≡ length (printed_at_end self.now) }
         ensures out_after { out.new ≡ overwrite out.old 0 (printed_at_end self.now) }
     {
-        match self.len {
-            Some(0) => 0,
+        match &self.line {
+            Some(line) if line.is_empty() => 0,
             _ => self.end_line(room, out, 0),
         }
     }

@@ -5,42 +5,22 @@ use mathlib.Core.Path.{◌≡◌, refl, sym, ◌∙◌, ap}
 use native.Mathlib.Omega.{arith}
 use lib.ListN.{length, take, drop, set, length-append}
 use lib.Seq.{take_at}
-use borrow.Author.Tests.{lt-leb, le-leb}
-use Rattle.willow.specs.declared.Limits.{Limits}
+use borrow.Author.Tests.{lt-leb}
 use Rattle.willow.specs.declared.Refusal.{Refusal}
 use Rattle.willow.specs.declared.Refusal.TheVariants.{BadKind}
-use Rattle.willow.specs.Answers.{written_buffer}
 use Rattle.willow.specs.Paths.{Path}
-use Rattle.willow.specs.Refusals.{Outcome, value}
+use Rattle.willow.specs.Refusals.{Outcome}
 use Rattle.number.specs.Overwriting.{overwrite}
 use Rattle.number.proofs.OverwritingLaws.{length_overwrite, overwrite_at_front, front_written, store_overwrite, written_on}
-use Rattle.keyask.specs.Found.{Found, Finds}
-use Rattle.std.specs.Prelude.{None, Some, Ok, Err}
-use Rattle.keyask.proofs.FoundLaws.{stands_readable}
 use Rattle.keyform.specs.Answering.{max_answer, refused_text, outcome_text, line_outcome, answer_text, ended_answer}
-use Rattle.keyform.specs.Texts.{newline, path_text}
+use Rattle.keyform.specs.Texts.{newline}
 use Rattle.keyform.specs.Wording.{max_line}
 use Rattle.keyform.proofs.AnsweringLaws.{answer_bound, refused_length}
-use Rattle.keyline.specs.Shown.{found_text, FoundReadable}
 
--- WHAT WAS FOUND, shown
-pub found_shown : (L : Limits) (o : Outcome Path) (f : Found) (next : List ℕ) → Finds L o f next → FoundReadable f next × (found_text f next ≡ outcome_text o)
-found_shown L o (Err r) next h = (tt, ap outcome_text (sym h))
-found_shown L o (Ok None) next h = (tt, ap outcome_text (sym h))
-found_shown L o (Ok (Some (size, k))) next (p, e, st) =
-    let r = stands_readable L p size k next st in
-    ((st.inside, r.0), ap path_text r.1 ∙ ap outcome_text (sym e))
-
-pub record Shows (line : List ℕ) (f : Found) (next : List ℕ) : Type 0 where
-  pub can_read : FoundReadable f next
-  pub shows : found_text f next ≡ answer_text line
-  pub bound : length (found_text f next) ≤ max_answer
-
-pub line_shown : (line : List ℕ) (f : Found) (next : List ℕ) → ((L : Limits) × Finds L (line_outcome line) f next) → Shows line f next
+-- WHAT IS SHOWN of a line's outcome is its answer, which is short enough
+pub line_shown : (line : List ℕ) (o : Outcome Path) → o ≡ line_outcome line → (outcome_text o ≡ answer_text line) × (length (outcome_text o) ≤ max_answer)
 unfolding answer_text
-line_shown line f next (L, h) =
-    let s = found_shown L (line_outcome line) f next h in
-    record { can_read = s.0; shows = s.1; bound = rw s.1 (answer_bound line) }
+line_shown line o e = let b = answer_bound line in (ap outcome_text e, rw e b)
 
 pub answer_room : (t : List ℕ) (to room : ℕ) → length t ≤ max_answer → to + max_answer + 1 ≤ room → to + length t ≤ room
 answer_room t to room h k = omega arith
@@ -64,25 +44,21 @@ unfolding ended_answer
 ended_is line = refl
 
 -- .. and behind that of a line
-pub found_room : (line : List ℕ) (f : Found) (next : List ℕ) (to room : ℕ) → ((L : Limits) × Finds L (line_outcome line) f next)
-    → to + max_answer + 1 ≤ room → FoundReadable f next × (to + length (found_text f next) ≤ room)
-found_room line f next to room h k =
-    let s = line_shown line f next h in
-    let b = s.bound in
-    (s.can_read, omega arith)
+pub found_room : (line : List ℕ) (o : Outcome Path) (to room : ℕ) → o ≡ line_outcome line → to + max_answer + 1 ≤ room → to + length (outcome_text o) ≤ room
+found_room line o to room e k = let b = (line_shown line o e).1 in omega arith
 
 pub record Ended (line out : List ℕ) (to : ℕ) (shown : List ℕ) (at : ℕ) : Type 0 where
   pub room : at < length shown
   pub place : at + 1 ≡ to + length (ended_answer line)
   pub written : set shown at newline ≡ overwrite out to (ended_answer line)
 
-pub line_ended : (line : List ℕ) (f : Found) (next out : List ℕ) (to : ℕ) (shown : List ℕ) (at : ℕ) → ((L : Limits) × Finds L (line_outcome line) f next)
-    → at ≡ to + length (found_text f next) → shown ≡ overwrite out to (found_text f next) → to + max_answer + 1 ≤ length out → Ended line out to shown at
-line_ended line f next out to shown at h e w k =
-    let s = line_shown line f next h in
+pub line_ended : (line : List ℕ) (o : Outcome Path) (out : List ℕ) (to : ℕ) (shown : List ℕ) (at : ℕ) → o ≡ line_outcome line
+    → at ≡ to + length (outcome_text o) → shown ≡ overwrite out to (outcome_text o) → to + max_answer + 1 ≤ length out → Ended line out to shown at
+line_ended line o out to shown at h e w k =
+    let s = (line_shown line o h).0 in
     let t = answer_text line in
-    let place : at ≡ to + length t = e ∙ ap (λ x. to + length x) s.shows in
-    let written : shown ≡ overwrite out to t = w ∙ ap (overwrite out to) s.shows in
+    let place : at ≡ to + length t = e ∙ ap (λ x. to + length x) s in
+    let written : shown ≡ overwrite out to t = w ∙ ap (overwrite out to) s in
     let b = answer_bound line in
     record {
       room = newline_room t out shown to at place written b k;
@@ -119,9 +95,3 @@ answer_front line out n new room e w =
           ∙ ap (take (n - 1)) (append_assoc (answer_text line) (newline ∷ []) (drop (length (ended_answer line)) out))
           ∙ take_at (answer_text line) (newline ∷ drop (length (ended_answer line)) out) (n - 1) z,
     )
-
--- an answer copied out of a buffer that it fits
-pub copied : (text out part : List ℕ) (n : ℕ) → part ≡ text → n ≡ length text → n ≤ length out → overwrite out 0 part ≡ written_buffer (value text) out
-copied text out part n e l h =
-    let z : length text ≤ length out = omega arith in
-    rw (le-leb (length text) (length out) z, e) (overwrite_at_front out text)

@@ -2,29 +2,26 @@
 
 ghost use Rattle.std.specs.Prelude.{◌≡◌, ◌+◌, ◌≤◌, length, take};
 ghost use Rattle.number.specs.Overwriting.{overwrite};
-ghost use Rattle.keyform.specs.Answering.{answer_text, ended_answer, max_answer};
+ghost use Rattle.willow.specs.Answers.{optional_outcome_by};
+ghost use Rattle.packed.specs.LentPaths.{path_of};
+ghost use Rattle.keyform.specs.Answering.{answer_text, ended_answer, max_answer, outcome_text};
 ghost use Rattle.keyform.specs.Wording.{max_line};
-ghost use Rattle.keyline.specs.Shown.{found_text, FoundReadable};
 
 use keyask::inner::Room;
 use keyform::MAX_LINE;
+use packed::lent::LentPath;
 use willow::Refusal;
 
 // What was found, as text.
-fn put_found(
-    found: Result<Option<(usize, usize)>, Refusal>,
-    next: &[u8],
-    out: &mut [u8],
-    to: usize,
-) -> usize
-    requires { FoundReadable found next.now × (to + length (found_text found next.now) ≤ length out.old) }
-    ensures value { result ≡ to + length (found_text found next.now) }
-    ensures out_after { out.new ≡ overwrite out.old to (found_text found next.now) }
+fn put_found(found: Result<Option<LentPath>, Refusal>, out: &mut [u8], to: usize) -> usize
+    requires { to + length (outcome_text (optional_outcome_by path_of found)) ≤ length out.old }
+    ensures value { result ≡ to + length (outcome_text (optional_outcome_by path_of found.entry)) }
+    ensures out_after { out.new ≡ overwrite out.old to (outcome_text (optional_outcome_by path_of found.entry)) }
 {
     match found {
         Err(r) => keyshow::inner::put_refused(r, out, to),
         Ok(None) => keyshow::inner::put_none(out, to),
-        Ok(Some((size, k))) => keyshow::inner::put_path(&next[..size], k, out, to),
+        Ok(Some(path)) => keyshow::inner::put_path(path, out, to),
     }
 }
 
@@ -35,7 +32,7 @@ pub fn answer_line(line: &[u8], room: &mut Room, out: &mut [u8], to: usize) -> u
     ensures out_after { out.new ≡ overwrite out.old to (ended_answer line.now) }
 {
     let found = keyask::inner::ask(line, room);
-    let at = put_found(found, &room.next, out, to);
+    let at = put_found(found, out, to);
     out[at] = b'\n';
     at + 1
 }

@@ -2,25 +2,21 @@
 #![tactic(auto)]
 
 ghost use Rattle.std.specs.Prelude.{◌≡◌};
-ghost use Rattle.willow.specs.Answers.{counted_outcome, written_buffer, written_length};
+ghost use Rattle.willow.specs.Answers.{outcome, written_buffer, written_length};
 ghost use Rattle.willow.specs.Refusals.{value};
 ghost use Rattle.keyform.specs.Answering.{answer_text};
 
 use keyform::MAX_ENDED_ANSWER;
-use willow::{Counted, Refusal};
+use willow::Refusal;
 
 pub mod inner;
 
 // The answer to a line, written to the front of out: how many bytes; 15 if out is too short for it.
-pub fn answer(line: &[u8], out: &mut [u8]) -> Counted
-    ensures result_value { counted_outcome result ≡ written_length (value (answer_text line.now)) out.old }
+pub fn answer(line: &[u8], out: &mut [u8]) -> Result<u64, Refusal>
+    ensures result_value { outcome result ≡ written_length (value (answer_text line.now)) out.old }
     ensures out_after { out.new ≡ written_buffer (value (answer_text line.now)) out.old }
 {
     let mut held = [0u8; MAX_ENDED_ANSWER];
     let n = inner::answer_any(line, &mut held);
-    if out.len() < n {
-        return Counted::Refused(Refusal::OutTooSmall);
-    }
-    number::put(out, 0, &held[..n]);
-    Counted::Count(n as u64)
+    written::write(&&held[..n], out)
 }

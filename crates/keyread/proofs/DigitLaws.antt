@@ -5,7 +5,7 @@ use mathlib.Core.Option.{none, some}
 use mathlib.Core.Path.{◌≡◌, sym, ◌∙◌, ap}
 use native.Mathlib.Nat.{pow-le-pow_right}
 use native.Mathlib.Omega.{arith}
-use lib.ListN.{length, take, drop, get_or, length-drop, drop_of_length-le}
+use lib.ListN.{length, take, drop, get_or, length-drop}
 use lib.Seq.{drop-cons, take_all}
 use borrow.Author.Tests.{le-leb, lt-leb, lt-ltb, le-ltb, eq-eqb, ne_eqb}
 use Rattle.keyform.specs.Reading.{field_from}
@@ -46,10 +46,6 @@ module _ (s : List ℕ) (i v b : ℕ) (within : i < length s) (here : b ≡ get_
   field_above h =
       let n : b ≡ 32 → ⊥ = λ e. omega arith in
       ap (field_from (10 - i) v) front ∙ rw (ne_eqb b space n, le-leb 48 b (omega arith), lt-leb b 57 h)
-
--- nothing stands behind the last
-pub field_unended : (s : List ℕ) (i left v : ℕ) → length s ≤ i → field_from left v (drop i s) ≡ none
-field_unended s i left v h = ap (field_from left v) (drop_of_length-le s h)
 
 -- a number of so many digits, and one digit more
 pub digits_more : (i v d : ℕ) → v < 10 ^ i → d < 10 → 10 * v + d < 10 ^ (i + 1)

@@ -1,5 +1,5 @@
 -- Hexadecimal read two digits at a time: what was read stands before what is still to be read.
-use Prim.Native.Nat.{ℕ, suc, ◌+◌, ◌*◌, ◌/◌, ◌≤◌, ◌<◌}
+use Prim.Native.Nat.{ℕ, zero, suc, ◌+◌, ◌*◌, ◌/◌, ◌≤◌, ◌<◌}
 use mathlib.Core.List.{List, [], ◌∷◌, ◌++◌, append_assoc, append-nil}
 use mathlib.Core.Option.{Option, none, some}
 use mathlib.Core.Path.{◌≡◌, refl, sym, ◌∙◌, ap}
@@ -7,6 +7,7 @@ use native.Mathlib.Omega.{arith}
 use lib.ListN.{length, drop, get_or, set, length-append, drop_of_length-le}
 use lib.Seq.{drop-cons}
 use borrow.Author.Tests.{lt-ltb}
+use Rattle.std.specs.Simd.{first_chunks}
 use Rattle.number.specs.Overwriting.{overwrite}
 use Rattle.number.proofs.OverwritingLaws.{overwrite_nil, store_overwrite, written_on, length_overwrite}
 use Rattle.keyform.specs.Reading.{hex_value, before, read_hex}
@@ -36,6 +37,23 @@ hex_odd s n = go (read_hex s) refl
     go : (o : Option (List ℕ)) → read_hex s ≡ o → read_hex s ≡ none
     go none e = e
     go (some v) e = let h = hex_half s v e in absurd (n (omega arith))
+
+-- the pairs of digits, as they are cut from the text
+pub pair_at : (s : List ℕ) (n k : ℕ) → k < n → 2 * n ≤ length s
+    → (get_or (get_or (first_chunks 2 n s) k []) 0 0 ≡ get_or s (2 * k) 0) × (get_or (get_or (first_chunks 2 n s) k []) 1 0 ≡ get_or s (2 * k + 1) 0)
+pair_at s zero k h r = absurd (omega arith)
+pair_at [] (suc n) k h r = absurd (omega arith)
+pair_at (a ∷ []) (suc n) k h r = absurd (omega arith)
+pair_at (a ∷ b ∷ s) (suc n) zero h r = (refl, refl)
+pair_at (a ∷ b ∷ s) (suc n) (suc k) h r =
+    let p = pair_at s n k (omega arith) (omega arith) in
+    let e : 2 * suc k ≡ suc (suc (2 * k)) = omega arith in
+    let f : 2 * suc k + 1 ≡ suc (suc (2 * k + 1)) = omega arith in
+    (rw e p.0, rw f p.1)
+
+pub pair_of : (s : List ℕ) (ps : List (List ℕ)) (k : ℕ) → ps ≡ first_chunks 2 (length s / 2) s → k < length s / 2
+    → (get_or (get_or ps k []) 0 0 ≡ get_or s (2 * k) 0) × (get_or (get_or ps k []) 1 0 ≡ get_or s (2 * k + 1) 0)
+pair_of s ps k e h = rw e (pair_at s (length s / 2) k h (omega arith))
 
 -- what the loop has done with k bytes read, v: the rest decides, and v is written
 pub record HexSoFar (s out₀ : List ℕ) (to : ℕ) (out : List ℕ) (k : ℕ) (v : List ℕ) : Type 0 where

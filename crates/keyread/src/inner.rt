@@ -46,7 +46,7 @@ fn hex_value(b: u8) -> Option<u8>
         (b'a', 6, 10)
     };
     let d = b.wrapping_sub(first);
-    if d < count { Some(value + d) } else { None }
+    (d < count).then(|| value + d)
 }
 
 // Hexadecimal digits read into out from a place on: how many bytes.
@@ -54,16 +54,16 @@ fn read_hex(s: &[u8], out: &mut [u8], to: usize) -> Option<usize>
     requires { 2 * to + length s.now ≤ 2 * length out.old }
     ensures { HexRead s.now out.old to result out.new }
 {
-    let n = s.len() / 2;
-    if s.len() != 2 * n {
+    let (pairs, rest) = s.as_chunks::<2>();
+    if !rest.is_empty() {
         return None;
     }
-    for k in 0..n {
-        let high = hex_value(s[2 * k])?;
-        let low = hex_value(s[2 * k + 1])?;
+    for (k, pair) in pairs.iter().enumerate() {
+        let high = hex_value(pair[0])?;
+        let low = hex_value(pair[1])?;
         out[to + k] = 16 * high + low;
     }
-    Some(n)
+    Some(pairs.len())
 }
 
 // A component read into bytes from a place on: how many bytes.

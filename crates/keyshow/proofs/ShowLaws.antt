@@ -9,15 +9,10 @@ use lib.ListN.{length, drop, get_or, set, length-append, drop_of_length-le}
 use lib.Seq.{drop-cons}
 use borrow.Author.Tests.{lt-ltb, le-ltb}
 use Rattle.willow.specs.declared.Refusal.{Refusal}
-use Rattle.willow.specs.declared.Refusal.TheVariants.{BadLimits, BadSheet, BadKind, WrongNamespace, BadPath, BadLengths, PathTooLong, TooManyComponents, ComponentTooLong, NoSuchPrefix, Overfilled, Unfinished, TotalFull, NoRoom, OutTooSmall}
-use Rattle.willow.specs.Answers.{path_in}
-use Rattle.willow.specs.Packed.{unpack}
 use Rattle.willow.specs.Paths.{Component, Path}
 use Rattle.willow.specs.Refusals.{refusal_number}
 use Rattle.number.specs.Overwriting.{overwrite}
 use Rattle.number.proofs.OverwritingLaws.{overwrite_nil, store_overwrite, stores_overwrite, written_on}
-use Rattle.packed.specs.Readable.{Readable}
-use Rattle.packed.proofs.PrefixLaws.{front, front_component}
 use Rattle.keyform.specs.Answering.{refused_text}
 use Rattle.keyform.specs.Texts.{text, dash, slash, digit_zero, decimal_digits, decimal_text, hex_digit, hex_text, component_text, behind_each, path_text}
 
@@ -49,14 +44,14 @@ hex_turn c out at i high low h k eh el =
 pub hex_end : (c : List ℕ) (i : ℕ) → length c ≤ i → hex_text (drop i c) ≡ []
 hex_end c i h = rw (drop_of_length-le c h)
 
--- A COMPONENT d, which was read as c: empty or not.
-pub component_dash : (c d : Component) → c ≡ d → length c ≡ 0 → component_text d ≡ dash ∷ []
-component_dash [] d e h = ap component_text (sym e)
-component_dash (b ∷ bs) d e h = absurd (omega arith)
+-- A COMPONENT: empty or not.
+pub component_dash : (c : Component) → length c ≡ 0 → component_text c ≡ dash ∷ []
+component_dash [] h = refl
+component_dash (b ∷ bs) h = absurd (omega arith)
 
-pub component_hex : (c d : Component) → c ≡ d → (length c ≡ 0 → ⊥) → component_text d ≡ hex_text c
-component_hex [] d e n = absurd (n refl)
-component_hex (b ∷ bs) d e n = ap component_text (sym e)
+pub component_hex : (c : Component) → (length c ≡ 0 → ⊥) → component_text c ≡ hex_text c
+component_hex [] n = absurd (n refl)
+component_hex (b ∷ bs) n = refl
 
 -- COMPONENTS: those from i on are left, each behind a slash.
 abbrev pub rest_text : Path → ℕ → List ℕ
@@ -69,50 +64,38 @@ path_first (c ∷ cs) h = refl
 rest_next : (p : Path) (i : ℕ) → i < length p → rest_text p i ≡ slash ∷ (component_text (get_or p i []) ++ rest_text p (i + 1))
 rest_next p i h = rw (add-one i, drop-cons p i [] h)
 
-rest_end : (p : Path) (i : ℕ) → length p ≤ i → rest_text p i ≡ []
-rest_end p i h = rw (drop_of_length-le p h)
+pub all_shown : (p : Path) (i : ℕ) → length p ≤ i → rest_text p i ≡ []
+all_shown p i h = rw (drop_of_length-le p h)
 
--- In a buffer: no component; and the first k, which are written one behind the other, as the code does it.
-pub none_shown : (b : List ℕ) (k : ℕ) → k ≡ 0 → path_text (path_in b k) ≡ text "()"
-unfolding path_in
-none_shown b k e = rw e
+-- No component; and the components one behind the other, as the code writes them: c is the one that was read.
+pub none_shown : (p : Path) → length p ≡ 0 → path_text p ≡ text "()"
+none_shown [] e = refl
+none_shown (c ∷ cs) e = absurd (omega arith)
 
-module _ (b : List ℕ) (k : ℕ) (r : Readable b k) where
-  abbrev whole : List ℕ
-  whole = path_text (path_in b k)
+module _ (p : Path) (c : Component) where
+  module _ (n : 0 < length p) (r : c ≡ get_or p 0 []) where
+    first_shown : path_text p ≡ component_text c ++ rest_text p 1
+    first_shown = path_first p n ∙ rw r
 
-  abbrev rest : ℕ → List ℕ
-  rest = rest_text (path_in b k)
+    pub first_length : length (path_text p) ≡ length (component_text c) + length (rest_text p 1)
+    first_length = ap length first_shown ∙ length-append (component_text c) (rest_text p 1)
 
-  abbrev shown : ℕ → List ℕ
-  shown i = component_text (get_or (unpack b) i [])
-
-  pub all_shown : (i : ℕ) → k ≤ i → rest i ≡ []
-  all_shown i h = rest_end (path_in b k) i (omega (arith, front b k r))
-
-  module _ (n : k ≡ 0 → ⊥) where
-    first_shown : whole ≡ shown 0 ++ rest 1
-    first_shown = path_first (path_in b k) (omega (arith, front b k r)) ∙ rw (front_component b k 0 (omega arith))
-
-    pub first_length : length whole ≡ length (shown 0) + length (rest 1)
-    first_length = ap length first_shown ∙ length-append (shown 0) (rest 1)
-
-    pub first_written : (out t u : List ℕ) (to at : ℕ) → at ≡ to + length (shown 0) → at ≤ length out
-        → t ≡ overwrite out to (shown 0) → u ≡ overwrite t at (rest 1) → u ≡ overwrite out to whole
+    pub first_written : (out t u : List ℕ) (to at : ℕ) → at ≡ to + length (component_text c) → at ≤ length out
+        → t ≡ overwrite out to (component_text c) → u ≡ overwrite t at (rest_text p 1) → u ≡ overwrite out to (path_text p)
     first_written out t u to at e f x y =
-        written_on out (shown 0) (rest 1) t u to at (sym e) f x y ∙ ap (overwrite out to) (sym first_shown)
+        written_on out (component_text c) (rest_text p 1) t u to at (sym e) f x y ∙ ap (overwrite out to) (sym first_shown)
 
-  module _ (i : ℕ) (h : i < k) where
-    next_shown : rest i ≡ slash ∷ (shown i ++ rest (i + 1))
-    next_shown = rest_next (path_in b k) i (omega (arith, front b k r)) ∙ rw (front_component b k i h)
+  module _ (i : ℕ) (h : i < length p) (r : c ≡ get_or p i []) where
+    next_shown : rest_text p i ≡ slash ∷ (component_text c ++ rest_text p (i + 1))
+    next_shown = rest_next p i h ∙ rw r
 
-    pub next_length : length (rest i) ≡ suc (length (shown i) + length (rest (i + 1)))
-    next_length = ap length next_shown ∙ ap suc (length-append (shown i) (rest (i + 1)))
+    pub next_length : length (rest_text p i) ≡ suc (length (component_text c) + length (rest_text p (i + 1)))
+    next_length = ap length next_shown ∙ ap suc (length-append (component_text c) (rest_text p (i + 1)))
 
-    pub next_written : (out t : List ℕ) (at next : ℕ) → next ≡ at + 1 + length (shown i) → next ≤ length out
-        → t ≡ overwrite (set out at slash) (at + 1) (shown i) → overwrite t next (rest (i + 1)) ≡ overwrite out at (rest i)
+    pub next_written : (out t : List ℕ) (at next : ℕ) → next ≡ at + 1 + length (component_text c) → next ≤ length out
+        → t ≡ overwrite (set out at slash) (at + 1) (component_text c) → overwrite t next (rest_text p (i + 1)) ≡ overwrite out at (rest_text p i)
     next_written out t at next e f x =
-        stored_before out t (shown i) (rest (i + 1)) slash at next e f x ∙ ap (overwrite out at) (sym next_shown)
+        stored_before out t (component_text c) (rest_text p (i + 1)) slash at next e f x ∙ ap (overwrite out at) (sym next_shown)
 
 -- A REFUSAL whose number is n: one digit behind the word, or two. The word has been written over out, which gave t.
 abbrev word : List ℕ
@@ -152,21 +135,3 @@ module _ (r : Refusal) (n : ℕ) (e : n ≡ refusal_number r) where
     two_written out t to f l x =
         let stored = two_stored t (to + 8) (digit_zero + n / decimal_digits) (digit_zero + n % decimal_digits) (omega arith) in
         written_on out word digits t _ to (to + 8) (omega arith) (omega arith) x stored ∙ ap (overwrite out to) (sym two_digits)
-
--- two are enough
-pub number_below : (r : Refusal) → refusal_number r < 100
-number_below BadLimits = omega arith
-number_below BadSheet = omega arith
-number_below BadKind = omega arith
-number_below WrongNamespace = omega arith
-number_below BadPath = omega arith
-number_below BadLengths = omega arith
-number_below PathTooLong = omega arith
-number_below TooManyComponents = omega arith
-number_below ComponentTooLong = omega arith
-number_below NoSuchPrefix = omega arith
-number_below Overfilled = omega arith
-number_below Unfinished = omega arith
-number_below TotalFull = omega arith
-number_below NoRoom = omega arith
-number_below OutTooSmall = omega arith

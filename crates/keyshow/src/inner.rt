@@ -1,15 +1,14 @@
 // The text of an answer, written over lent memory from a place on: the path, `none`, or `refused` and the number. Each function
-// gives the place behind what it has written, and requires that all of it lies inside.
+// gives the place behind what it has written, and requires that all of it lies inside. A place goes in and the next comes out: a writer
+// that holds both would need the same premise anew after each write.
 
-ghost use Rattle.std.specs.Prelude.{[], ◌≡◌, ◌+◌, ◌<◌, ◌≤◌, get_or, length};
+ghost use Rattle.std.specs.Prelude.{◌≡◌, ◌+◌, ◌<◌, ◌≤◌, length};
 ghost use Rattle.number.specs.Overwriting.{overwrite};
-ghost use Rattle.willow.specs.Answers.{path_in};
-ghost use Rattle.willow.specs.Packed.{Packed, packed_count, unpack};
-ghost use Rattle.packed.specs.Readable.{Readable};
+ghost use Rattle.packed.specs.LentPaths.{path_of};
 ghost use Rattle.keyform.specs.Answering.{refused_text};
 ghost use Rattle.keyform.specs.Texts.{component_text, hex_digit, hex_text, path_text, text};
 
-use packed::inner;
+use packed::lent::LentPath;
 use willow::Refusal;
 
 // The byte of a hexadecimal digit: 0 to 9, then a to f. The library's `from_digit` gives a character that there may not be, and this is
@@ -36,13 +35,12 @@ fn put_hex(c: &[u8], out: &mut [u8], to: usize) -> usize
     to + 2 * c.len()
 }
 
-// Component i of a packed path: its bytes, or a dash for an empty one.
-fn put_component(b: &[u8], i: usize, out: &mut [u8], to: usize) -> usize
-    requires { Packed b.now × (i < packed_count b.now) × (to + length (component_text (get_or (unpack b.now) i [])) ≤ length out.old) }
-    ensures value { result ≡ to + length (component_text (get_or (unpack b.now) i [])) }
-    ensures out_after { out.new ≡ overwrite out.old to (component_text (get_or (unpack b.now) i [])) }
+// A component: its bytes, or a dash for an empty one.
+fn put_component(c: &[u8], out: &mut [u8], to: usize) -> usize
+    requires { to + length (component_text c.now) ≤ length out.old }
+    ensures value { result ≡ to + length (component_text c.now) }
+    ensures out_after { out.new ≡ overwrite out.old to (component_text c.now) }
 {
-    let c = inner::component(b, i);
     if c.is_empty() {
         out[to] = b'-';
         return to + 1;
@@ -50,21 +48,22 @@ fn put_component(b: &[u8], i: usize, out: &mut [u8], to: usize) -> usize
     put_hex(c, out, to)
 }
 
-// The text of the first k components of a tested path, written over out from a place on: the place behind it.
-pub fn put_path(b: &[u8], k: usize, out: &mut [u8], to: usize) -> usize
-    requires { Readable b.now k × (to + length (path_text (path_in b.now k)) ≤ length out.old) }
-    ensures value { result ≡ to + length (path_text (path_in b.now k)) }
-    ensures out_after { out.new ≡ overwrite out.old to (path_text (path_in b.now k)) }
+// The text of a path, written over out from a place on: the place behind it.
+pub fn put_path(path: LentPath, out: &mut [u8], to: usize) -> usize
+    requires { to + length (path_text (path_of path)) ≤ length out.old }
+    ensures value { result ≡ to + length (path_text (path_of path.entry)) }
+    ensures out_after { out.new ≡ overwrite out.old to (path_text (path_of path.entry)) }
 {
+    let k = path.component_count();
     if k == 0 {
         out[to] = b'(';
         out[to + 1] = b')';
         return to + 2;
     }
-    let mut at = put_component(b, 0, out, to);
+    let mut at = put_component(path.component(0), out, to);
     for i in 1..k {
         out[at] = b'/';
-        at = put_component(b, i, out, at + 1);
+        at = put_component(path.component(i), out, at + 1);
     }
     at
 }

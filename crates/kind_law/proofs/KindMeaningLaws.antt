@@ -20,13 +20,8 @@ use Rattle.willow.proofs.KindProofs.{kind_laws, says_good}
 use Rattle.kinds.specs.Kinds as numbers
 use Rattle.kinds.specs.Kinds.{of_kinds, on_kinds, both, range_from}
 use Rattle.area_kinds.specs.AreaKinds.{Parts, parts_of, area_from}
-use Rattle.path_bounds.specs.declared.PathEnd.{PathEnd}
-use Rattle.path_bounds.specs.declared.PathEnd.TheVariants.{Closed, Open}
-use Rattle.path_bounds.specs.declared.PathRange.{PathRange}
-use Rattle.path_kinds.specs.PathKinds as paths
-use Rattle.path_kinds.specs.PathKinds.{path_end_from, path_range_from}
 use Rattle.range_3d_kinds.specs.Range3dKinds.{Parts3d, parts3d_of, parts3d_from, with_numbers}
-use Rattle.kind_law.specs.KindMeaning.{MeansEnd, MeansSubspace, MeansPathEnd, MeansRange, MeansPathRange, KindMeaning}
+use Rattle.kind_law.specs.KindMeaning.{MeansEnd, MeansSubspace, MeansRange, KindMeaning}
 
 -- A READING: what it gives is what is meant, and it gives something exactly if the kinds are good.
 record Reads {A : Type 0} (o : Option A) (Meant : A → Type 0) (Good : Type 0) : Type 0 where
@@ -123,10 +118,6 @@ end_reads : (kind n : ℕ) → Reads (end_from kind n) (MeansEnd kind n) (GoodKi
 unfolding end_from
 end_reads kind n = kind_reads kind endless (closed n)
 
-path_end_reads : (kind count : ℕ) → Reads (path_end_from kind count) (MeansPathEnd kind count) (GoodKind kind)
-unfolding path_end_from
-path_end_reads kind count = kind_reads kind Open (Closed count)
-
 range_reads : (start kind n : ℕ) → Reads (range_from start kind n) (MeansRange start kind n) (GoodKind kind)
 range_reads start kind n = subst (λ o. Reads o (MeansRange start kind n) (GoodKind kind)) (go (end_from kind n))
     (mapped_reads with_start (λ r. r.end) (λ r. r.start ≡ start) made (MeansEnd kind n) (GoodKind kind) (end_from kind n) (end_reads kind n))
@@ -138,20 +129,6 @@ range_reads start kind n = subst (λ o. Reads o (MeansRange start kind n) (GoodK
     made = record { known = λ e. refl; kept = λ e. refl; back = λ r e. λ i. record { start = sym e i; end = r.end } }
 
     go : (o : Option (End ℕ)) → mapped with_start o ≡ numbers.from_start start o
-    go none = refl
-    go (some e) = refl
-
-path_range_reads : (start kind count : ℕ) → Reads (path_range_from start kind count) (MeansPathRange start kind count) (GoodKind kind)
-path_range_reads start kind count = subst (λ o. Reads o (MeansPathRange start kind count) (GoodKind kind)) (go (path_end_from kind count))
-    (mapped_reads with_start (λ r. r.end) (λ r. r.start ≡ start) made (MeansPathEnd kind count) (GoodKind kind) (path_end_from kind count) (path_end_reads kind count))
-  where
-    with_start : PathEnd → PathRange
-    with_start e = record { start = start; end = e }
-
-    made : Made with_start (λ r. r.end) (λ r. r.start ≡ start)
-    made = record { known = λ e. refl; kept = λ e. refl; back = λ r e. λ i. record { start = sym e i; end = r.end } }
-
-    go : (o : Option PathEnd) → mapped with_start o ≡ paths.from_start start o
     go none = refl
     go (some e) = refl
 
@@ -186,10 +163,10 @@ module _ (kind id count start end_kind end : ℕ) where
       go none = refl
       go (some x) = refl
 
--- 3D RANGES: a range of paths beside two of numbers.
+-- 3D RANGES: a range of counts beside two of numbers.
 module _ (s sk e c pk d t tk u : ℕ) where
-  abbrev ThreeMeant : PathRange × (Range ℕ × Range ℕ) → Type 0
-  ThreeMeant x = MeansPathRange c pk d x.0 × (MeansRange s sk e x.1.0 × MeansRange t tk u x.1.1)
+  abbrev ThreeMeant : Range ℕ × (Range ℕ × Range ℕ) → Type 0
+  ThreeMeant x = MeansRange c pk d x.0 × (MeansRange s sk e x.1.0 × MeansRange t tk u x.1.1)
 
   abbrev ThreeGood : Type 0
   ThreeGood = GoodKind pk × (GoodKind sk × GoodKind tk)
@@ -201,27 +178,27 @@ module _ (s sk e c pk d t tk u : ℕ) where
   unfolding parts3d_from
   range3d_reads = subst (λ o. Reads o Meant3d ThreeGood) (go three)
       (mapped_reads with_paths apart (λ r. Unit {0}) made ThreeMeant ThreeGood three
-      (both_reads (path_range_from c pk d) (both (range_from s sk e) (range_from t tk u)) (path_range_reads c pk d)
+      (both_reads (range_from c pk d) (both (range_from s sk e) (range_from t tk u)) (range_reads c pk d)
       (both_reads (range_from s sk e) (range_from t tk u) (range_reads s sk e) (range_reads t tk u))))
     where
-      three : Option (PathRange × (Range ℕ × Range ℕ))
-      three = both (path_range_from c pk d) (both (range_from s sk e) (range_from t tk u))
+      three : Option (Range ℕ × (Range ℕ × Range ℕ))
+      three = both (range_from c pk d) (both (range_from s sk e) (range_from t tk u))
 
-      with_paths : PathRange × (Range ℕ × Range ℕ) → Parts3d
+      with_paths : Range ℕ × (Range ℕ × Range ℕ) → Parts3d
       with_paths x = with_numbers x.0 x.1
 
-      apart : Parts3d → PathRange × (Range ℕ × Range ℕ)
+      apart : Parts3d → Range ℕ × (Range ℕ × Range ℕ)
       apart r = (r.paths, (r.subspaces, r.times))
 
       made : Made with_paths apart (λ r. Unit {0})
       made = record { known = λ x. tt; kept = λ x. refl; back = λ r k. refl }
 
-      go : (o : Option (PathRange × (Range ℕ × Range ℕ))) → mapped with_paths o ≡ parts3d_of o
+      go : (o : Option (Range ℕ × (Range ℕ × Range ℕ))) → mapped with_paths o ≡ parts3d_of o
       go none = refl
       go (some x) = refl
 
   range3d_means : (r : Parts3d) → (parts3d_from s sk e c pk d t tk u ≡ some r)
-      ↔ (MeansRange s sk e r.subspaces × MeansPathRange c pk d r.paths × MeansRange t tk u r.times)
+      ↔ (MeansRange s sk e r.subspaces × MeansRange c pk d r.paths × MeansRange t tk u r.times)
   range3d_means r = (
     λ x. let m = (range3d_reads.meant r x).1 in (m.1.0, m.0, m.1.1),
     λ m. range3d_reads.read r (tt, (m.1, (m.0, m.2))),
@@ -248,12 +225,8 @@ kind_meaning = record {
   end_bad = λ kind n. bad (end_from kind n) (end_reads kind n);
   subspace_means = λ kind n. means (subspace_reads kind n);
   subspace_bad = λ kind n. bad (subspace_from kind n) (subspace_reads kind n);
-  path_end_means = λ kind n. means (path_end_reads kind n);
-  path_end_bad = λ kind n. bad (path_end_from kind n) (path_end_reads kind n);
   range_means = λ a kind n. means (range_reads a kind n);
   range_bad = λ a kind n. bad (range_from a kind n) (range_reads a kind n);
-  path_range_means = λ a kind n. means (path_range_reads a kind n);
-  path_range_bad = λ a kind n. bad (path_range_from a kind n) (path_range_reads a kind n);
   area_means = λ kind id count start end_kind end a. (
     λ x. let m = (area_reads kind id count start end_kind end).meant a x in (m.1.0, m.0, m.1.1),
     λ m. (area_reads kind id count start end_kind end).read a (m.1, (m.0, m.2)),

@@ -13,10 +13,6 @@ use Rattle.willow.specs.Ranges.{End, closed, endless, Range, end_from}
 use Rattle.willow.specs.Refusals.{Outcome, refused}
 use Rattle.kinds.specs.Kinds.{on_kinds, both, range_from}
 use Rattle.area_kinds.specs.AreaKinds.{Parts, area_from}
-use Rattle.path_bounds.specs.declared.PathEnd.{PathEnd}
-use Rattle.path_bounds.specs.declared.PathEnd.TheVariants.{Closed, Open}
-use Rattle.path_bounds.specs.declared.PathRange.{PathRange}
-use Rattle.path_kinds.specs.PathKinds.{path_end_from, path_range_from}
 use Rattle.range_3d_kinds.specs.Range3dKinds.{Parts3d, parts3d_from}
 
 -- WHAT IS MEANT. "Kinds: end 0 open, 1 closed; subspace 0 any, 1 one id. A number or path passed beside kind 0 is not read."
@@ -26,16 +22,9 @@ MeansEnd kind n e = Says kind endless (closed n) e
 abbrev pub MeansSubspace : ℕ → ℕ → AreaSubspace → Type 0
 MeansSubspace kind n s = Says kind Any (Id n) s
 
--- The end of a range of paths is passed as a count beside its buffer.
-abbrev pub MeansPathEnd : ℕ → ℕ → PathEnd → Type 0
-MeansPathEnd kind count e = Says kind Open (Closed count) e
-
--- "A range has a start and a closed (excluded) or open end."
+-- "A range has a start and a closed (excluded) or open end." Those of a range of paths are passed as counts beside their buffers.
 abbrev pub MeansRange : ℕ → ℕ → ℕ → Range ℕ → Type 0
 MeansRange start kind n r = (r.start ≡ start) × MeansEnd kind n r.end
-
-abbrev pub MeansPathRange : ℕ → ℕ → ℕ → PathRange → Type 0
-MeansPathRange start kind count r = (r.start ≡ start) × MeansPathEnd kind count r.end
 
 -- WHAT IS COMPUTED IS WHAT IS MEANT, and refusal 3 is due exactly if one of the kinds is neither 0 nor 1. There are no premises.
 pub record KindMeaning : Type 1 where
@@ -43,12 +32,8 @@ pub record KindMeaning : Type 1 where
   pub end_bad : (kind n : ℕ) → (end_from kind n ≡ none) ↔ (GoodKind kind → ⊥)
   pub subspace_means : (kind n : ℕ) (s : AreaSubspace) → (subspace_from kind n ≡ some s) ↔ MeansSubspace kind n s
   pub subspace_bad : (kind n : ℕ) → (subspace_from kind n ≡ none) ↔ (GoodKind kind → ⊥)
-  pub path_end_means : (kind count : ℕ) (e : PathEnd) → (path_end_from kind count ≡ some e) ↔ MeansPathEnd kind count e
-  pub path_end_bad : (kind count : ℕ) → (path_end_from kind count ≡ none) ↔ (GoodKind kind → ⊥)
   pub range_means : (start kind n : ℕ) (r : Range ℕ) → (range_from start kind n ≡ some r) ↔ MeansRange start kind n r
   pub range_bad : (start kind n : ℕ) → (range_from start kind n ≡ none) ↔ (GoodKind kind → ⊥)
-  pub path_range_means : (start kind count : ℕ) (r : PathRange) → (path_range_from start kind count ≡ some r) ↔ MeansPathRange start kind count r
-  pub path_range_bad : (start kind count : ℕ) → (path_range_from start kind count ≡ none) ↔ (GoodKind kind → ⊥)
   -- an area: its subspace, the count of its path, and its times
   pub area_means : (kind id count start end_kind end : ℕ) (a : Parts) → (area_from kind id count start end_kind end ≡ some a)
       ↔ (MeansSubspace kind id a.subspace × (a.count ≡ count) × MeansRange start end_kind end a.times)
@@ -56,7 +41,7 @@ pub record KindMeaning : Type 1 where
       ↔ (GoodKind kind × GoodKind end_kind → ⊥)
   -- a 3d range: its subspaces, its paths and its times, in the order in which they are passed
   pub range3d_means : (s sk e c pk d t tk u : ℕ) (r : Parts3d) → (parts3d_from s sk e c pk d t tk u ≡ some r)
-      ↔ (MeansRange s sk e r.subspaces × MeansPathRange c pk d r.paths × MeansRange t tk u r.times)
+      ↔ (MeansRange s sk e r.subspaces × MeansRange c pk d r.paths × MeansRange t tk u r.times)
   pub range3d_bad : (s sk e c pk d t tk u : ℕ) → (parts3d_from s sk e c pk d t tk u ≡ none)
       ↔ (GoodKind sk × GoodKind pk × GoodKind tk → ⊥)
   -- two of them: both mean something, or 3

@@ -1,19 +1,11 @@
 -- Questions whose arguments come with kinds as numbers.
 use Rattle.std.specs.Prelude.{ℕ}
 use Rattle.std.proofs.Math.Option.{Option, none, some}
-use Rattle.willow.specs.declared.AreaSubspace.{AreaSubspace}
 use Rattle.willow.specs.declared.Limits.{Limits}
 use Rattle.willow.specs.declared.Refusal.TheVariants.{BadKind}
 use Rattle.willow.specs.Answers.{unless, limits_refusal}
-use Rattle.willow.specs.Ranges.{End, Range, end_of, end_from}
-use Rattle.willow.specs.Refusals.{Outcome, refused, value}
-use Rattle.range.specs.NumberRanges.{range_of}
-use Rattle.kinds.specs.declared.EndRead.{EndRead}
-use Rattle.kinds.specs.declared.EndRead.TheVariants as end
-use Rattle.kinds.specs.declared.RangeRead.{RangeRead}
-use Rattle.kinds.specs.declared.RangeRead.TheVariants as range
-use Rattle.kinds.specs.declared.SubspaceRead.{SubspaceRead}
-use Rattle.kinds.specs.declared.SubspaceRead.TheVariants as subspace
+use Rattle.willow.specs.Ranges.{End, Range, end_from}
+use Rattle.willow.specs.Refusals.{Outcome, refused}
 
 -- "3 BadKind: a kind number passed to a call is neither 0 nor 1"; or the question on what the kinds stand for.
 abbrev pub of_kinds : {A B : Type 0} → Option B → (B → Outcome A) → Outcome A
@@ -37,16 +29,3 @@ from_start a (some e) = some (record { start = a; end = e })
 
 abbrev pub range_from : ℕ → ℕ → ℕ → Option (Range ℕ)
 range_from a kind n = from_start a (end_from kind n)
-
--- What the cases of the code's readings mean: a bad kind is refusal 3.
-abbrev pub end_read : EndRead → Outcome (End ℕ)
-end_read end.Bad = refused BadKind
-end_read (end.Is e) = value (end_of e)
-
-abbrev pub range_read : RangeRead → Outcome (Range ℕ)
-range_read range.Bad = refused BadKind
-range_read (range.Is r) = value (range_of r)
-
-abbrev pub subspace_read : SubspaceRead → Outcome AreaSubspace
-subspace_read subspace.Bad = refused BadKind
-subspace_read (subspace.Is s) = value s

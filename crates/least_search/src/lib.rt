@@ -4,9 +4,10 @@
 
 pub mod inner;
 
-// Where a path is raised: component i is cut after its first m bytes, and a byte put behind them.
+// Where a path is raised: a component is cut after its first bytes, and one byte put behind them.
 #[derive(Clone, Copy)]
-pub enum Place {
-    Nowhere,
-    At(usize, usize, u8),
+pub struct Place {
+    pub component: usize,
+    pub bytes: usize,
+    pub last: u8,
 }

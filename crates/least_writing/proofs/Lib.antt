@@ -1,2 +1,2 @@
-pub mod TailLaws
+pub mod LongerLaws
 pub mod CallLaws

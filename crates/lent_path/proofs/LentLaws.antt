@@ -1,6 +1,6 @@
 -- What is known of a path whose test passed: a question on it is the question on the path in the buffer, it has as many components as
 -- counted, and a prefix of it is read with the smaller count.
-use Prim.Native.Nat.{ℕ, ◌≤◌, ◌<◌}
+use Prim.Native.Nat.{ℕ, ◌≤◌}
 use mathlib.Core.Path.{◌≡◌}
 use mathlib.Core.List.{List}
 use mathlib.Core.Option.{none}
@@ -9,7 +9,7 @@ use lib.ListN.{length, take}
 use lib.Seq.{take-take}
 use Rattle.willow.specs.declared.Limits.{Limits}
 use Rattle.willow.specs.Answers.{path_in, path_refusal, on_path}
-use Rattle.willow.specs.Packed.{packed_count, unpack}
+use Rattle.willow.specs.Packed.{unpack}
 use Rattle.willow.specs.Paths.{Path}
 use Rattle.willow.specs.Refusals.{Outcome}
 use Rattle.packed.specs.Readable.{Readable}
@@ -30,7 +30,3 @@ module _ (L : Limits) (b : List ℕ) (k : ℕ) (fine : path_refusal L b k ≡ no
 
   pub counted : length (path_in b k) ≡ k
   counted = (front b k (readable L b k fine)).count
-
-  -- component i stands in the buffer
-  pub component_there : (i : ℕ) → i < k → i < packed_count b
-  component_there i h = let w = (readable L b k fine).within in omega arith

@@ -7,7 +7,6 @@ use mathlib.Core.Bool.{true}
 use lib.ListN.{length, take, drop}
 use borrow.Author.Tests.{leb-true, le-leb}
 use Rattle.willow.specs.declared.Limits.{Limits}
-use Rattle.willow.specs.Limits.{Accepted, max_capacity}
 use Rattle.willow.specs.Lists.{All}
 use Rattle.willow.proofs.Bools.{both_true}
 use Rattle.willow.proofs.LimitLaws.{limit_laws}
@@ -15,14 +14,9 @@ use Rattle.willow.proofs.ListLaws.{every_means}
 use Rattle.number.specs.Overwriting.{all_zero}
 use Rattle.sheet.specs.Rows.{Shape, Room, cells_from, sheet_length, rows_of}
 use Rattle.map_form.specs.Maps.{MapSizes, map_numbers, map_shape, sizes_in, count_in}
-use Rattle.map_form.specs.MapTest.{row_fits, rows_fit, sizes_fit, is_map}
+use Rattle.map_form.specs.MapTest.{row_fits, rows_fit, sizes_fit, is_map, SizesPassed, MapPassed}
 
--- WHAT PASSED: sizes, rows, and all of it.
-pub record SizesPassed (z : MapSizes) (n : ℕ) : Type 0 where
-  pub limits_accepted : Accepted z.limits
-  pub capacity_accepted : z.capacity ≤ max_capacity
-  pub count : n ≤ z.capacity
-
+-- WHAT PASSED: rows, and all of it.
 pub record RowsPassed (L : Limits) (z : Shape) (n : ℕ) (s : List ℕ) : Type 0 where
   pub rows : All (λ r. row_fits L r ≡ true) (take n (rows_of z s))
   pub heads_zero : all_zero (take (z.head_size * (z.capacity - n)) (drop (z.front + z.head_size * n) s)) ≡ true
@@ -86,3 +80,9 @@ map_passed s = (to, from)
     from p =
         rw (le-leb (8 * map_numbers) (length s) p.long, (sizes_passed (sizes_in s) (count_in s)).1 p.sizes, le-leb (sheet_length (map_shape (sizes_in s))) (length s) p.room)
         ((rows_passed (sizes_in s).limits (map_shape (sizes_in s)) (count_in s) s).1 p.rows)
+
+-- What a map that was tested knows of itself.
+pub map_known : (s : List ℕ) → is_map s ≡ true → MapPassed s
+map_known s h =
+    let p = (map_passed s).0 h in
+    record { tested = h; long = p.long; sizes = p.sizes; room = p.room }

@@ -1,15 +1,15 @@
 -- The test of a lent map, as computed, and what it means: refusal 2.
-use Rattle.std.specs.Prelude.{ℕ, ◌+◌, ◌*◌, ◌-◌, ◌≡◌, ◌↔◌, List, Bool, true, ◌&&◌, cond, eqb, leb, length, take, drop}
+use Rattle.std.specs.Prelude.{ℕ, ◌+◌, ◌*◌, ◌-◌, ◌≤◌, ◌≡◌, ◌↔◌, List, Bool, true, ◌&&◌, cond, eqb, leb, length, take, drop}
 use Rattle.std.proofs.Math.Option.{Option, none, some}
 use Rattle.willow.specs.declared.Limits.{Limits}
 use Rattle.willow.specs.declared.Refusal.{Refusal}
 use Rattle.willow.specs.declared.Refusal.TheVariants.{BadSheet}
-use Rattle.willow.specs.Limits.{accepted_limits, accepted_capacity}
+use Rattle.willow.specs.Limits.{Accepted, accepted_limits, accepted_capacity, max_capacity}
 use Rattle.willow.specs.Lists.{every}
 use Rattle.willow.specs.Numbers.{Bytes, number_at}
 use Rattle.number.specs.Overwriting.{all_zero}
 use Rattle.sheet.specs.Cells.{cell_fits}
-use Rattle.sheet.specs.Rows.{Shape, Row, head, cell, rows_of, cells_from, sheet_length}
+use Rattle.sheet.specs.Rows.{Shape, Room, Row, head, cell, rows_of, cells_from, sheet_length}
 use Rattle.map_form.specs.Maps.{MapSizes, map_numbers, map_shape, Rule, IsMap, sizes_in, count_in, rules_in}
 
 -- A kind that stands in a sheet: 0 with the number 0 beside it, or 1.
@@ -43,6 +43,18 @@ is_map s =
 -- "2 BadSheet: a lent sheet is too short, breaks its layout below, or holds sizes over those bounds."
 abbrev pub map_refusal : List ℕ → Option Refusal
 map_refusal s = cond (is_map s) none (some BadSheet)
+
+-- What is known of bytes that passed: their sizes are within the bounds, and there is room for a map of these.
+pub record SizesPassed (z : MapSizes) (n : ℕ) : Type 0 where
+  pub limits_accepted : Accepted z.limits
+  pub capacity_accepted : z.capacity ≤ max_capacity
+  pub count : n ≤ z.capacity
+
+pub record MapPassed (s : List ℕ) : Type 0 where
+  pub tested : is_map s ≡ true
+  pub long : 8 * map_numbers ≤ length s
+  pub sizes : SizesPassed (sizes_in s) (count_in s)
+  pub room : Room (map_shape (sizes_in s)) s
 
 -- WHAT IT MEANS. Refusal 2 exactly if no proper map's layout begins the buffer; and where one does, reading gives it back. The
 -- premise is that a buffer holds bytes, as an empty one does.

@@ -13,6 +13,7 @@ use Rattle.willow.specs.Ranges.{End, closed, endless, end_kind, end_value}
 use Rattle.number.specs.Records.{laid}
 use Rattle.sheet.specs.Cells.{cell_size_of, path_cell, cell_path}
 use Rattle.sheet.specs.Rows.{Shape, Row, head, cell, rows_of, sheet_bytes}
+use Rattle.map_form.specs.declared.sizes.MapSizes as code
 
 -- A rule: an area with a value.
 pub record Rule : Type 0 where
@@ -23,10 +24,9 @@ pub record ValidRule (L : Limits) (r : Rule) : Type 0 where
   pub area_valid : ValidArea L r.area
   pub value_word : r.value ≤ max_word
 
--- What a map was made with: the limits of its paths and its capacity N.
-pub record MapSizes : Type 0 where
-  pub limits : Limits
-  pub capacity : ℕ
+-- What a map was made with, as the code has it: the limits of its paths and its capacity N.
+abbrev pub MapSizes : Type 0
+MapSizes = code.MapSizes
 
 -- The numbers before the heads, and the bytes of a head.
 abbrev pub map_numbers : ℕ

@@ -3,16 +3,14 @@
 use Prim.Native.Nat.{ℕ, ◌+◌, ◌-◌, ◌*◌, ◌≤◌, ◌<◌}
 use mathlib.Core.Path.{◌≡◌, refl, sym, ◌∙◌, ap}
 use mathlib.Core.List.{List, [], ◌∷◌, ◌++◌, append_assoc, append-nil}
-use mathlib.Core.Option.{none, some}
-use mathlib.Core.Bool.{true, false, cond}
+use mathlib.Core.Bool.{true, false}
 use native.Mathlib.Omega.{arith}
-use native.Mathlib.Nat.{mul-le-mul}
 use lib.ListN.{length, drop, replicate-append-replicate}
 use borrow.Author.Tests.{le-leb, lt-leb}
 use Rattle.willow.specs.declared.Limits.{Limits}
 use Rattle.willow.specs.declared.Refusal.TheVariants.{BadLimits, OutTooSmall}
-use Rattle.willow.specs.Answers.{unless, limits_refusal, written_length, written_buffer}
-use Rattle.willow.specs.Limits.{Accepted, accepted_limits, accepted_capacity, max_capacity}
+use Rattle.willow.specs.Answers.{limits_refusal, written_length, written_buffer}
+use Rattle.willow.specs.Limits.{accepted_limits, accepted_capacity}
 use Rattle.willow.specs.Numbers.{le}
 use Rattle.willow.specs.Refusals.{refused, value}
 use Rattle.number.specs.Overwriting.{overwrite, zeros}
@@ -24,14 +22,6 @@ use Rattle.sheet.specs.Rows.{Fitting, sheet_length, sheet_bytes}
 use Rattle.sheet.proofs.LayoutLaws.{layout_length, layout_number_put}
 use Rattle.map_form.specs.Maps.{MapSizes, map_shape, header_of, map_layout}
 use Rattle.map_law.specs.Insertions.{fresh_map}
-
--- HOW LONG A MAP IS: no large number.
-pub cells_small : (L : Limits) (N : ℕ) → Accepted L → N ≤ max_capacity → cell_size_of L * N ≤ 12296 * 4096
-cells_small L N a h =
-    let b = a.mcc_within in
-    let m = a.mpl_within in
-    let w : cell_size_of L ≤ 12296 = omega arith in
-    mul-le-mul w h
 
 module _ (z : MapSizes) where
   no_rows : Fitting (map_shape z) 0 []
@@ -105,10 +95,6 @@ module _ (L : Limits) (N : ℕ) where
   pub limits_bad : accepted_limits L ≡ false → fresh_map L N ≡ refused BadLimits
   unfolding fresh_map limits_refusal
   limits_bad h = rw h
-
-  pub capacity_bad : accepted_limits L ≡ true → accepted_capacity N ≡ false → fresh_map L N ≡ refused BadLimits
-  unfolding fresh_map limits_refusal
-  capacity_bad h e = rw h (ap (λ t. unless (cond t none (some BadLimits)) (value (map_layout (record { limits = L; capacity = N }) []))) e)
 
   pub fresh_fine : accepted_limits L ≡ true → accepted_capacity N ≡ true → value (map_layout (record { limits = L; capacity = N }) []) ≡ fresh_map L N
   unfolding fresh_map limits_refusal

@@ -4,3 +4,4 @@ pub mod TableLaws
 pub mod StepLaws
 pub mod TheoremProof
 pub mod RefusalLaws
+pub mod AskedKindLaws

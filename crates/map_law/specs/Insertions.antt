@@ -1,5 +1,5 @@
 -- Making a map and inserting into it: what the calls answer, and the bytes that they leave.
-use Rattle.std.specs.Prelude.{ℕ, ◌+◌, ◌≤◌, List, [], ◌∷◌, ◌++◌, cond, eqb, drop}
+use Rattle.std.specs.Prelude.{ℕ, ◌≤◌, List, [], ◌∷◌, ◌++◌, cond, eqb, drop}
 use Rattle.std.proofs.Math.Option.{Option, none, some}
 use Rattle.willow.specs.declared.Limits.{Limits}
 use Rattle.willow.specs.declared.Refusal.{Refusal}

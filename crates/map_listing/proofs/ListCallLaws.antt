@@ -4,34 +4,25 @@ use Prim.Native.Nat.{ℕ}
 use mathlib.Core.Path.{◌≡◌, refl, sym, ◌∙◌, ap}
 use mathlib.Core.List.{List}
 use mathlib.Core.Option.{Option, none, some}
-use mathlib.Core.Bool.{true, false}
+use mathlib.Core.Bool.{true}
 use Rattle.willow.specs.declared.AreaSubspace.{AreaSubspace}
 use Rattle.willow.specs.declared.Limits.{Limits}
 use Rattle.willow.specs.declared.Refusal.{Refusal}
-use Rattle.willow.specs.declared.Refusal.TheVariants.{BadSheet}
-use Rattle.willow.specs.declared.Tested.{Tested}
-use Rattle.willow.specs.Answers.{unless, or_else, tested_refusal, limits_refusal, lent_refusal, path_in, path_refusal, written_buffer}
+use Rattle.willow.specs.Answers.{unless, or_else, limits_refusal, lent_refusal, path_in, path_refusal, written_buffer}
 use Rattle.willow.specs.Areas.{subspace_from}
 use Rattle.willow.specs.Limits.{accepted_limits}
 use Rattle.willow.specs.Ranges.{Range}
 use Rattle.willow.specs.Refusals.{Outcome, refused, absent, value}
 use Rattle.willow.proofs.LimitLaws.{limit_laws}
 use Rattle.kinds.specs.Kinds.{both, of_kinds, on_kinds, range_from}
-use Rattle.kinds.proofs.KindLaws.{answered, kinds_fine, kinds_answered}
+use Rattle.map_law.proofs.AskedKindLaws.{answered, kinds_fine, kinds_answered}
 use Rattle.area.specs.declared.Area as code
 use Rattle.area.specs.LentAreas.{area_in}
 use Rattle.area_kinds.specs.AreaKinds.{Parts, parts, parts_of, area_from, area_with}
 use Rattle.map_form.specs.Maps.{sizes_in, rules_in}
-use Rattle.map_form.specs.MapTest.{is_map}
-use Rattle.map_form.proofs.MapTestLaws.{map_passed}
+use Rattle.map_form.specs.MapTest.{is_map, MapPassed}
 use Rattle.map_law.specs.Insertions.{AreaArgument, parts_in, kinds_missing, area_refusal, area_passed}
 use Rattle.listing_law.specs.Listings.{positions, positions_for, listing, listed_number, listed_bytes}
-
--- No map: 2.
-module _ (s : List ℕ) (failed : is_map s ≡ false) where
-  pub listing_bad : (x : AreaArgument) → refused BadSheet ≡ listing s x
-  unfolding listing area_refusal
-  listing_bad x = rw failed
 
 -- AN AREA THAT WAS READ has the count that was passed.
 abbrev count_or : ℕ → Outcome Parts → ℕ
@@ -49,9 +40,12 @@ count_kept L kind id count start end_kind end = go (limits_refusal L) (both (sub
     go none (some p) = refl
 
 -- THE LISTING of a map that passed, by the limits that stand in it.
-module _ (s : List ℕ) (passed : is_map s ≡ true) (x : AreaArgument) (L : Limits) (same : L ≡ (sizes_in s).limits) where
+module _ (s : List ℕ) (known : MapPassed s) (x : AreaArgument) (L : Limits) (same : L ≡ (sizes_in s).limits) where
   accepted : accepted_limits L ≡ true
-  accepted = rw same ((limit_laws.limits_means (sizes_in s).limits).1 ((map_passed s).0 passed).sizes.limits_accepted)
+  accepted = rw same ((limit_laws.limits_means (sizes_in s).limits).1 known.sizes.limits_accepted)
+
+  passed : is_map s ≡ true
+  passed = known.tested
 
   no_limits : limits_refusal L ≡ none
   unfolding limits_refusal
@@ -82,16 +76,19 @@ module _ (s : List ℕ) (passed : is_map s ≡ true) (x : AreaArgument) (L : Lim
     counted : a.count ≡ x.count
     counted = ap (count_or x.count) read ∙ count_kept L x.kind x.id x.count x.start x.end_kind x.end
 
-    pub listing_told : (t v : Tested) → tested_refusal t ≡ path_refusal L x.buffer a.count → t ≡ v
-        → unless (tested_refusal v) (value (positions (area_in a x.buffer) (rules_in s))) ≡ listing s x
+    listing_told : unless (path_refusal L x.buffer a.count) (value (positions (area_in a x.buffer) (rules_in s))) ≡ listing s x
     unfolding path_refusal
-    listing_told t v e h =
-        let k : tested_refusal v ≡ lent_refusal L x.buffer a.count =
-        ap tested_refusal (sym h) ∙ e ∙ ap (λ o. or_else o (lent_refusal L x.buffer a.count)) no_limits in
-        ap (λ o. unless o (value (positions (area_in a x.buffer) (rules_in s)))) k ∙ moved ∙ answers (value (parts a)) read
+    listing_told =
+        ap (λ o. unless (or_else o (lent_refusal L x.buffer a.count)) (value (positions (area_in a x.buffer) (rules_in s)))) no_limits ∙ moved ∙ answers (value (parts a)) read
       where
         moved : unless (lent_refusal L x.buffer a.count) (value (positions (area_in a x.buffer) (rules_in s))) ≡ listed_for (parts a)
         moved = ap (λ n. unless (lent_refusal L x.buffer n) (value (positions (area_with (parts a) (path_in x.buffer n)) (rules_in s)))) counted
+
+    pub listing_path : (r : Refusal) → path_refusal L x.buffer a.count ≡ some r → refused r ≡ listing s x
+    listing_path r e = sym (ap (λ o. unless o (value (positions (area_in a x.buffer) (rules_in s)))) e) ∙ listing_told
+
+    pub listing_fine : path_refusal L x.buffer a.count ≡ none → value (positions (area_in a x.buffer) (rules_in s)) ≡ listing s x
+    listing_fine e = sym (ap (λ o. unless o (value (positions (area_in a x.buffer) (rules_in s)))) e) ∙ listing_told
 
 -- WHAT IS LISTED for an outcome is listed for an equal one.
 pub listed_as : (o p : Outcome (List ℕ)) → o ≡ p → (r : Outcome ℕ) (before behind : List ℕ)

@@ -1,14 +1,15 @@
 -- The rules that meet an area, one after the other: the positions that are left to be counted or written from rule i on, in the
 -- code's index. What is left from 0 on is the whole listing.
-use Prim.Native.Nat.{ℕ, suc, ◌+◌, ◌*◌, ◌/◌, ◌≤◌, ◌<◌}
+use Prim.Native.Nat.{ℕ, suc, ◌+◌, ◌*◌, ◌≤◌, ◌<◌}
 use mathlib.Core.Path.{◌≡◌, refl, sym, ◌∙◌, ap}
 use mathlib.Core.List.{List, [], ◌∷◌, ◌++◌}
 use mathlib.Core.Bool.{Bool, true, false, cond}
 use native.Mathlib.Omega.{arith}
 use native.Mathlib.Numerals.{add-one}
-use lib.ListN.{length, drop, get_or, drop_of_length-le}
+use lib.ListN.{length, drop, get_or, drop_of_length-le, length-drop}
 use lib.Seq.{drop-cons}
 use borrow.Author.Tests.{le-leb, lt-leb}
+use Rattle.std.specs.List.{filter, range_with_len}
 use Rattle.willow.specs.declared.Refusal.TheVariants.{OutTooSmall}
 use Rattle.willow.specs.Answers.{written_buffer}
 use Rattle.willow.specs.Areas.{Area}
@@ -21,7 +22,7 @@ use Rattle.number.proofs.OverwritingLaws.{length_overwrite, overwrite_at_front, 
 use Rattle.number.proofs.RecordLaws.{sized_all, length_laid}
 use Rattle.map_form.specs.Maps.{Rule}
 use Rattle.listing_law.specs.Listings.{meets, positions_from, positions, listed_number, listed_bytes}
-use Rattle.map_reading.specs.Rules.{no_rule}
+use Rattle.map_rules.specs.RulePlaces.{no_rule}
 
 -- there are no more positions than rules
 positions_from_few : (a : Area) (i : ℕ) (rules : List Rule) → length (positions_from a i rules) ≤ length rules
@@ -56,35 +57,21 @@ module _ (a : Area) (rules : List Rule) where
     pub left_misses : meets a (get_or rules i no_rule) ≡ false → left i ≡ left (i + 1)
     left_misses e = rw (add-one i, drop-cons rules i no_rule h, e)
 
-  -- COUNTING: what was found and what is left are all.
-  pub record Counting (found i : ℕ) : Type 0 where
-    pub within : i ≤ length rules
-    pub few : found ≤ i
-    pub same : found + length (left i) ≡ length (positions a rules)
+  -- THE POSITIONS are the numbers of the rules that meet.
+  numbers_left : (i : ℕ) (rest : List Rule) → drop i rules ≡ rest
+      → positions_from a i rest ≡ filter (λ k. meets a (get_or rules k no_rule)) (range_with_len i (length rest))
+  numbers_left i [] e = refl
+  numbers_left i (r ∷ rest) e =
+      let l = ap length e ∙ refl in
+      let h : i < length rules = let m = length-drop i rules in omega arith in
+      let f : get_or rules i no_rule ∷ drop (i + 1) rules ≡ r ∷ rest = rw add-one (sym (drop-cons rules i no_rule h) ∙ e) in
+      let here : get_or rules i no_rule ≡ r = cc in
+      let ih = numbers_left (i + 1) rest (let g : drop (i + 1) rules ≡ rest = cc in g) in
+      rw here (ap (λ ps. cond (meets a r) (i ∷ ps) ps) (ap (λ k. positions_from a k rest) (sym (add-one i)) ∙ ih))
 
-  pub counting_starts : Counting 0 0
-  counting_starts = let l = ap length left_all in record { within = omega arith; few = omega arith; same = omega arith }
-
-  module _ (found i : ℕ) (k : Counting found i) (h : i < length rules) where
-    pub counts : meets a (get_or rules i no_rule) ≡ true → Counting (found + 1) (i + 1)
-    counts e =
-        let l = ap length (left_meets i h e) in
-        let s = k.same in
-        let f = k.few in
-        record { within = omega arith; few = omega arith; same = omega arith }
-
-    pub passes_over : meets a (get_or rules i no_rule) ≡ false → Counting found (i + 1)
-    passes_over e =
-        let l = ap length (left_misses i h e) in
-        let s = k.same in
-        let f = k.few in
-        record { within = omega arith; few = omega arith; same = omega arith }
-
-  pub counted_all : (found i : ℕ) → Counting found i → length rules ≤ i → found ≡ length (positions a rules)
-  counted_all found i k h =
-      let l = ap length (left_end i h) in
-      let s = k.same in
-      omega arith
+  pub positions_numbers : positions a rules ≡ filter (λ k. meets a (get_or rules k no_rule)) (range_with_len 0 (length rules))
+  unfolding positions
+  positions_numbers = numbers_left 0 rules refl
 
   -- WRITING: what is left, written from the place on that was reached, gives what the whole listing gives.
   pub record Writing (before out : List ℕ) (at i : ℕ) : Type 0 where
@@ -147,8 +134,8 @@ module _ (a : Area) (rules : List Rule) where
           same = ap (λ t. overwrite out at (laid (le 8) t)) (sym (left_misses i h e)) ∙ k.same;
         }
 
-  pub places_all : (before out : List ℕ) (at i : ℕ) → Writing before out at i → length rules ≤ i → at / 8 ≡ length (positions a rules)
-  places_all before out at i k h =
+  pub written_many : (before out : List ℕ) (n i : ℕ) → Writing before out (8 * n) i → length rules ≤ i → n ≡ length (positions a rules)
+  written_many before out n i k h =
       let l = ap length (left_end i h) in
       let r = k.place in
       omega arith

@@ -1,89 +1,65 @@
 // Which rules of a map that was tested meet an area. They are not open to a caller.
 
-ghost use Rattle.std.specs.Prelude.{true, ◌≡◌, ◌*◌, ◌<◌, ◌≤◌, length};
-ghost use Rattle.willow.specs.Answers.{counted_outcome, written_buffer};
+ghost use Rattle.std.specs.Prelude.{◌*◌, ◌<◌, ◌≡◌, ◌≤◌, length};
+ghost use Rattle.willow.specs.Answers.{outcome, written_buffer};
 ghost use Rattle.willow.specs.Numbers.{le};
 ghost use Rattle.willow.specs.Refusals.{value};
 ghost use Rattle.number.specs.Overwriting.{overwrite};
 ghost use Rattle.number.specs.Records.{laid};
-ghost use Rattle.packed.specs.Readable.{Readable};
-ghost use Rattle.area.specs.LentAreas.{area_in};
+ghost use Rattle.area.specs.LentAreas.{area_of};
 ghost use Rattle.map_form.specs.Maps.{count_in, rules_in};
-ghost use Rattle.map_form.specs.MapTest.{is_map};
 ghost use Rattle.listing_law.specs.Listings.{listed_bytes, listed_number, meets, positions};
-ghost use Rattle.map_reading.specs.Rules.{rule_at};
+ghost use Rattle.map_rules.specs.RulePlaces.{rule_at};
 
-use area::Area;
-use area_intersection::AreaMet;
-use map_form::COUNT_AT;
-use map_rules::inner as rules;
-use willow::{Counted, Refusal};
+use area::lent::LentArea;
+use area_intersection::inner::intersection;
+use map_rules::MapSheet;
+use number::write_u64;
+use willow::Refusal;
 
 // Whether the area of rule i and another intersect.
-fn row_meets(sheet: &[u8], i: usize, area: Area, base: &[u8]) -> bool
-    requires { (is_map sheet.now ≡ true) × (i < count_in sheet.now) × Readable base.now area.count }
-    ensures { result ≡ meets (area_in area base.now) (rule_at sheet.now i) }
+fn rule_meets(map: MapSheet, i: usize, area: LentArea) -> bool
+    requires { i < count_in map.bytes.now }
+    ensures { result ≡ meets (area_of area.entry) (rule_at map.entry.bytes.now i) }
 {
-    let path = rules::rule_path(sheet, i);
-    let rule = rules::rule_area(sheet, i, number::read_u64(path, 0));
-    match area_intersection::inner::intersection(rule, path, area, base) {
-        AreaMet::Refused(_) => false,
-        AreaMet::Nothing => false,
-        AreaMet::First(_) => true,
-        AreaMet::Second(_) => true,
-    }
+    let rule = map.rule(i).area.at(map.rule_path(i));
+    intersection(rule, area).is_some()
 }
 
 // How many rules meet an area.
-fn count_meeting(sheet: &[u8], area: Area, base: &[u8]) -> usize
-    requires { (is_map sheet.now ≡ true) × Readable base.now area.count }
-    ensures { result ≡ length (positions (area_in area base.now) (rules_in sheet.now)) }
+fn count_meeting(map: MapSheet, area: LentArea) -> usize
+    ensures { result ≡ length (positions (area_of area.entry) (rules_in map.entry.bytes.now)) }
 {
-    let count = number::read_u64(sheet, COUNT_AT) as usize;
-    let mut found: usize = 0;
-    let mut i: usize = 0;
-    while i < count {
-        if row_meets(sheet, i, area, base) {
-            found += 1;
-        }
-        i += 1;
-    }
-    found
+    (0..map.count())
+        .filter(|&i| rule_meets(map, i, area))
+        .count()
 }
 
-// The positions of these rules written to the front of a buffer that has room for all of them; answers how many.
-fn write_meeting(sheet: &[u8], area: Area, base: &[u8], out: &mut [u8]) -> usize
-    requires sheet_value { (is_map sheet.now ≡ true) × Readable base.now area.count }
-    requires sheet_in_bounds { 8 * length (positions (area_in area base.now) (rules_in sheet.now)) ≤ length out.old }
-    ensures value { result ≡ length (positions (area_in area base.now) (rules_in sheet.now)) }
-    ensures out_after { out.new ≡ overwrite out.old 0 (laid (le 8) (positions (area_in area base.now) (rules_in sheet.now))) }
+// The positions of these rules written to the front of a buffer that has room for all of them; answers how many. The count is
+// the answer, so it is kept here.
+fn write_meeting(map: MapSheet, area: LentArea, out: &mut [u8]) -> usize
+    requires { 8 * length (positions (area_of area) (rules_in map.bytes.now)) ≤ length out.old }
+    ensures value { result ≡ length (positions (area_of area.entry) (rules_in map.entry.bytes.now)) }
+    ensures out_after { out.new ≡ overwrite out.old 0 (laid (le 8) (positions (area_of area.entry) (rules_in map.entry.bytes.now))) }
 {
-    let n = number::read_u64(sheet, COUNT_AT) as usize;
-    let mut at: usize = 0;
-    let mut i: usize = 0;
-    while i < n {
-        if row_meets(sheet, i, area, base) {
-            number::write_u64(out, at, i as u64);
-            at += 8;
+    let mut written = 0;
+    for i in 0..map.count() {
+        if rule_meets(map, i, area) {
+            write_u64(out, 8 * written, i as u64);
+            written += 1;
         }
-        i += 1;
     }
-    at / 8
+    written
 }
 
 // The positions if all of them fit, else 15. Nothing is written unless all fit: so they are counted first, unless there is room for
 // every rule.
-pub fn list(sheet: &[u8], area: Area, base: &[u8], out: &mut [u8]) -> Counted
-    requires { (is_map sheet.now ≡ true) × Readable base.now area.count }
-    ensures result_value { counted_outcome result ≡ listed_number (value (positions (area_in area base.now) (rules_in sheet.now))) out.old }
-    ensures out_after { out.new ≡ written_buffer (listed_bytes (value (positions (area_in area base.now) (rules_in sheet.now)))) out.old }
+pub fn list(map: MapSheet, area: LentArea, out: &mut [u8]) -> Result<u64, Refusal>
+    ensures result_value { outcome result ≡ listed_number (value (positions (area_of area.entry) (rules_in map.entry.bytes.now))) out.old }
+    ensures out_after { out.new ≡ written_buffer (listed_bytes (value (positions (area_of area.entry) (rules_in map.entry.bytes.now)))) out.old }
 {
-    let most = number::read_u64(sheet, COUNT_AT) as usize;
-    if out.len() / 8 < most {
-        let found = count_meeting(sheet, area, base);
-        if out.len() < 8 * found {
-            return Counted::Refused(Refusal::OutTooSmall);
-        }
+    if out.len() / 8 < map.count() && out.len() < 8 * count_meeting(map, area) {
+        return Err(Refusal::OutTooSmall);
     }
-    Counted::Count(write_meeting(sheet, area, base, out) as u64)
+    Ok(write_meeting(map, area, out) as u64)
 }

@@ -5,16 +5,17 @@
 pub mod inner;
 
 ghost use Rattle.std.specs.Prelude.{◌≡◌};
-ghost use Rattle.willow.specs.Answers.{counted_outcome, written_buffer};
+ghost use Rattle.willow.specs.Answers.{outcome, written_buffer};
 ghost use Rattle.map_law.specs.Insertions.{argument};
 ghost use Rattle.listing_law.specs.Listings.{listed_bytes, listed_number, listing};
 
-use area_kinds::AreaRead;
-use map_form::{MCC_AT, MCL_AT, MPL_AT};
-use willow::{Counted, Limits, Refusal, Tested};
+use area_kinds::read_area;
+use willow::Refusal;
 
 // The positions of the rules whose area intersects an area, in insertion order, written in 8 bytes each to the front of a buffer;
-// answers how many. The area comes as its kinds and numbers, its path as a buffer with a count. Refuses 2, 3, 5, then 15.
+// answers how many. The area comes as its kinds and numbers, its path as a buffer with a count, one by one as the C interface passes
+// them. Refuses 2, 3, 5, then 15.
+#[tactic(auto, unfolding(listing_law::specs::Listings::listing, map_law::specs::Insertions::area_refusal))]
 pub fn intersecting(
     sheet: &[u8],
     kind: u64,
@@ -25,23 +26,13 @@ pub fn intersecting(
     end_kind: u64,
     end: u64,
     out: &mut [u8],
-) -> Counted
-    ensures result_value { counted_outcome result ≡ listed_number (listing sheet.now (argument kind id base.now count start end_kind end)) out.old }
+) -> Result<u64, Refusal>
+    ensures result_value { outcome result ≡ listed_number (listing sheet.now (argument kind id base.now count start end_kind end)) out.old }
     ensures out_after { out.new ≡ written_buffer (listed_bytes (listing sheet.now (argument kind id base.now count start end_kind end))) out.old }
 {
-    if map_test::inner::is_map(sheet) {
-        let limits = Limits {
-            mcl: number::read_u64(sheet, MCL_AT),
-            mcc: number::read_u64(sheet, MCC_AT),
-            mpl: number::read_u64(sheet, MPL_AT),
-        };
-        return match area_kinds::read_area(limits, kind, id, count, start, end_kind, end) {
-            AreaRead::Refused(r) => Counted::Refused(r),
-            AreaRead::Is(area) => match lent_path::test(limits, base, area.count) {
-                Tested::Refused(r) => Counted::Refused(r),
-                Tested::Fine => inner::list(sheet, area, base, out),
-            },
-        };
-    }
-    Counted::Refused(Refusal::BadSheet)
+    let map = map_rules::lend(sheet)?;
+    let limits = map.sizes().limits;
+    let area = read_area(limits, kind, id, count, start, end_kind, end)?;
+    let path = lent_path::lend(limits, base, area.count)?;
+    inner::list(map, area.at(path), out)
 }

@@ -64,10 +64,10 @@ part_size : (s : List ℕ) (at size : ℕ) → at + size ≤ length s → length
 part_size s at size h = let n : at + size - at ≡ size = omega arith in rw n (length_part s at size h)
 
 -- Where the head and the cell of row n stand, and the bytes once a head has come back.
-abbrev head_from : ℕ → ℕ
+abbrev pub head_from : ℕ → ℕ
 head_from n = 40 + 48 * n
 
-abbrev cell_from : MapSizes → ℕ → ℕ
+abbrev pub cell_from : MapSizes → ℕ → ℕ
 cell_from z n = 40 + 48 * z.capacity + cell_size_of z.limits * n
 
 abbrev with_head : List ℕ → ℕ → List ℕ → List ℕ

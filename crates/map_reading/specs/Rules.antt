@@ -1,31 +1,21 @@
 -- Reading a rule of a map: what the calls answer.
-use Rattle.std.specs.Prelude.{ℕ, List, cond, ltb, length, get_or}
+use Rattle.std.specs.Prelude.{ℕ, List, cond, ltb}
+use Rattle.std.specs.Prelude as std
+use Rattle.willow.specs.declared.Refusal.{Refusal}
 use Rattle.willow.specs.Answers.{unless}
-use Rattle.willow.specs.Areas.{full_area}
 use Rattle.willow.specs.Packed.{pack}
 use Rattle.willow.specs.Refusals.{Outcome, refused, absent, value}
-use Rattle.area_kinds.specs.AreaKinds.{Parts, parts}
-use Rattle.map_form.specs.Maps.{Rule, count_in, rules_in}
+use Rattle.area_kinds.specs.AreaKinds.{Parts}
+use Rattle.map_form.specs.Maps.{count_in}
 use Rattle.map_form.specs.MapTest.{map_refusal}
-use Rattle.map_reading.specs.declared.RuleRead.{RuleRead}
-use Rattle.map_reading.specs.declared.RuleRead.TheVariants as read
+use Rattle.map_rules.specs.declared.Rule as code
+use Rattle.map_rules.specs.RulePlaces.{rule_at, rule_meant, rule_parts}
 
--- What the cases of the code's answer mean: an area but for its path, and the value.
-abbrev pub rule_outcome : RuleRead → Outcome (Parts × ℕ)
-rule_outcome (read.Refused r) = refused r
-rule_outcome read.Nothing = absent
-rule_outcome (read.Is a v) = value (parts a, v)
-
--- A rule but for its path, of which it has the count.
-abbrev pub rule_parts : Rule → Parts × ℕ
-rule_parts r = (record { subspace = r.area.subspace; count = length r.area.path; times = r.area.times }, r.value)
-
--- Rule i of a map; past the last one this stands in, and is not read.
-abbrev pub no_rule : Rule
-no_rule = record { area = full_area; value = 0 }
-
-abbrev pub rule_at : List ℕ → ℕ → Rule
-rule_at s i = get_or (rules_in s) i no_rule
+-- What the code's answer means: an area but for its path, and the value.
+abbrev pub rule_outcome : std.Result (std.Option code.Rule) Refusal → Outcome (Parts × ℕ)
+rule_outcome (std.Err r) = refused r
+rule_outcome (std.Ok std.None) = absent
+rule_outcome (std.Ok (std.Some r)) = value (rule_meant r)
 
 -- How many rules there are; rule i, none past the last; its path, packed. All refuse 2.
 unfoldable pub count_outcome : List ℕ → Outcome ℕ

@@ -1,1 +1,2 @@
 pub mod RowReadLaws
+pub mod RuleAtLaws

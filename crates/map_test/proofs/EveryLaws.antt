@@ -1,30 +1,41 @@
--- A test of the first n elements of a list, one after the other: the test of those left from place i on, in the code's index.
-use Prim.Native.Nat.{ℕ, suc, ◌+◌, ◌≤◌, ◌<◌}
-use mathlib.Core.Path.{◌≡◌, ◌∙◌, ap}
-use mathlib.Core.Bool.{Bool, true, false}
-use mathlib.Core.List.{List, ◌∷◌}
+-- The test of the first n elements of a list is a test of each number below n.
+use Prim.Native.Nat.{ℕ, zero, suc, ◌≤◌, ◌<◌}
+use mathlib.Core.Path.{◌≡◌, refl, sym}
+use mathlib.Core.Bool.{Bool, true, false, ◌&&◌}
+use mathlib.Core.List.{List, [], ◌∷◌}
 use native.Mathlib.Omega.{arith}
-use native.Mathlib.Numerals.{add-one}
-use lib.ListN.{length, take, drop, get_or, drop_of_length-le}
-use lib.Seq.{drop-cons, get_or-take, length-take-le}
+use lib.ListN.{length, take, get_or}
+use Rattle.std.specs.Bool.{MatchBool}
+use Rattle.std.specs.List.{range_with_len, AllWithin, HoldsAt}
+use Rattle.std.proofs.lemmas.List.FromFn.{get_or-range_with_len, length-range_with_len}
 use Rattle.willow.specs.Lists.{every}
 
-module _ {A : Type 0} (f : A → Bool) (xs : List A) (n : ℕ) (long : n ≤ length xs) where
-  taken_long : length (take n xs) ≡ n
-  taken_long = length-take-le n xs long
+module _ {A : Type 0} (f : A → Bool) (d : A) where
+  every_passes : (xs : List A) (n : ℕ) → n ≤ length xs → ((k : ℕ) → k < n → f (get_or xs k d) ≡ true) → every f (take n xs) ≡ true
+  every_passes xs zero h p = refl
+  every_passes [] (suc n) h p = absurd (omega arith)
+  every_passes (x ∷ xs) (suc n) h p = rw (p 0 (omega arith)) (every_passes xs n (omega arith) (λ k q. p (suc k) (omega arith)))
 
-  -- the first of those left, and the rest
-  left_next : (i : ℕ) (d : A) → i < n → drop i (take n xs) ≡ get_or xs i d ∷ drop (i + 1) (take n xs)
-  left_next i d h =
-      let l = taken_long in
-      rw add-one (drop-cons (take n xs) i d (omega arith) ∙ ap (λ x. x ∷ drop (suc i) (take n xs)) (get_or-take n xs i d h))
+  every_fails : (xs : List A) (n k : ℕ) → n ≤ length xs → k < n → f (get_or xs k d) ≡ false → every f (take n xs) ≡ false
+  every_fails xs zero k h q e = absurd (omega arith)
+  every_fails [] (suc n) k h q e = absurd (omega arith)
+  every_fails (x ∷ xs) (suc n) zero h q e = rw e
+  every_fails (x ∷ xs) (suc n) (suc k) h q e = let ih = every_fails xs n k (omega arith) (omega arith) e in go (f x) ih
+    where
+      go : (b : Bool) → every f (take n xs) ≡ false → (b && every f (take n xs)) ≡ false
+      go true i = i
+      go false i = refl
 
-  pub every_passes : (i : ℕ) (d : A) → i < n → f (get_or xs i d) ≡ true → every f (drop i (take n xs)) ≡ every f (drop (i + 1) (take n xs))
-  every_passes i d h e = ap (every f) (left_next i d h) ∙ rw e
+  number_here : (n k : ℕ) → k < n → get_or (range_with_len 0 n) k 0 ≡ k
+  number_here n k q = omega (arith, get_or-range_with_len 0 n k 0 q)
 
-  pub every_fails : (i : ℕ) (d : A) → i < n → f (get_or xs i d) ≡ false → every f (drop i (take n xs)) ≡ false
-  every_fails i d h e = ap (every f) (left_next i d h) ∙ rw e
-
-  -- none left
-  pub every_end : (i : ℕ) → n ≤ i → every f (drop i (take n xs)) ≡ true
-  every_end i h = let l = taken_long in ap (every f) (drop_of_length-le (take n xs) {i = i} (omega arith))
+  pub every_by_number : (xs : List A) (n : ℕ) (r : Bool) → n ≤ length xs
+      → MatchBool r (AllWithin (λ k. f (get_or xs k d) ≡ true) (range_with_len 0 n) 0 (length (range_with_len 0 n))) ((k : ℕ) × (k < length (range_with_len 0 n)) × HoldsAt (λ k. f (get_or xs k d) ≡ false) (range_with_len 0 n) k)
+      → r ≡ every f (take n xs)
+  every_by_number xs n true h m =
+      let l = length-range_with_len 0 n in
+      sym (every_passes xs n h (λ k q. rw (number_here n k q) at (m k 0 (omega arith) (omega arith))))
+  every_by_number xs n false h m =
+      let l = length-range_with_len 0 n in
+      let q : m.0 < n = omega (arith, m.1) in
+      sym (every_fails xs n m.0 h q (rw (number_here n m.0 q) at (m.2 0)))

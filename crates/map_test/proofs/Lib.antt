@@ -1,2 +1,1 @@
 pub mod EveryLaws
-pub mod WayLaws

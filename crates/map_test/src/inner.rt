@@ -1,123 +1,84 @@
 // The parts of the test of a map. They are not open to a caller.
 
 ghost use Rattle.std.specs.Prelude.{◌≡◌, ◌<◌, ◌≤◌, length, take};
-ghost use Rattle.sheet.specs.Cells.{cell_size_of};
-ghost use Rattle.sheet.specs.Rows.{Room, row_at, rows_of};
+ghost use Rattle.sheet.specs.Rows.{row_at, rows_of};
 ghost use Rattle.map_form.specs.Maps.{map_head_size, map_shape};
 ghost use Rattle.willow.specs.Lists.{every};
 ghost use Rattle.map_form.specs.MapTest.{head_fits, is_map, kind_fits, row_fits, rows_fit, sizes_fit};
 
-use map_form::{
-    CAPACITY_AT, COUNT_AT, END_AT, END_KIND_AT, MAP_FRONT, MAP_HEAD, MCC_AT, MCL_AT, MPL_AT,
-    SUBSPACE_AT, SUBSPACE_KIND_AT,
-};
-use sheet::inner as rows;
-use willow::Limits;
+use map_form::rows::MapRows;
+use map_form::sizes::MapSizes;
+use map_form::{END_AT, END_KIND_AT, MAP_FRONT, SUBSPACE_AT, SUBSPACE_KIND_AT};
+use number::read_u64;
+use sheet::front::COUNT_AT;
+use sheet::inner::cell_fits;
 
-// A kind that stands in a sheet: 0 with the number 0 beside it, or 1.
+// A kind that stands in a sheet: 0 with the number 0 beside it, or 1. It is a number there, and `kinds` reads what stands beside it.
 fn kind_fits(kind: u64, n: u64) -> bool
     ensures { result ≡ kind_fits kind n }
 {
-    if kind == 0 {
-        return n == 0;
-    }
-    kind == 1
+    if kind == 0 { n == 0 } else { kind == 1 }
 }
 
 // Both kinds of a head.
+#[tactic(auto, unfolding(map_form::specs::MapTest::head_fits))]
 fn head_fits(head: &[u8]) -> bool
     requires { length head.now ≡ map_head_size }
     ensures { result ≡ head_fits head.now }
 {
-    if kind_fits(
-        number::read_u64(head, SUBSPACE_KIND_AT),
-        number::read_u64(head, SUBSPACE_AT),
-    ) {
-        return kind_fits(
-            number::read_u64(head, END_KIND_AT),
-            number::read_u64(head, END_AT),
-        );
-    }
-    false
+    kind_fits(
+        read_u64(head, SUBSPACE_KIND_AT),
+        read_u64(head, SUBSPACE_AT),
+    ) && kind_fits(read_u64(head, END_KIND_AT), read_u64(head, END_AT))
 }
 
 // Row i: its head and its cell.
-fn row_fits(limits: Limits, s: &[u8], cell: usize, capacity: usize, i: usize) -> bool
-    requires { (cell ≡ cell_size_of limits) × Room (map_shape (record { limits = limits; capacity = capacity })) s.now × (i < capacity) }
-    ensures { result ≡ row_fits limits (row_at (map_shape (record { limits = limits; capacity = capacity })) s.now i) }
+#[tactic(auto, unfolding(map_form::specs::MapTest::row_fits))]
+fn row_fits(rows: MapRows, i: usize) -> bool
+    requires { i < rows.sizes.capacity }
+    ensures { result ≡ row_fits rows.entry.sizes.limits (row_at (map_shape rows.entry.sizes) rows.entry.bytes.now i) }
 {
-    let cells = MAP_FRONT + MAP_HEAD * capacity;
-    if head_fits(rows::record_part(s, MAP_FRONT, MAP_HEAD, i)) {
-        return rows::cell_fits(limits, rows::record_part(s, cells, cell, i));
-    }
-    false
+    head_fits(rows.head(i)) && cell_fits(rows.sizes.limits, rows.cell(i))
 }
 
 // The first n rows.
-fn used_fit(limits: Limits, s: &[u8], cell: usize, capacity: usize, n: usize) -> bool
-    requires { (cell ≡ cell_size_of limits) × Room (map_shape (record { limits = limits; capacity = capacity })) s.now × (n ≤ capacity) }
-    ensures { result ≡ every (row_fits limits) (take n (rows_of (map_shape (record { limits = limits; capacity = capacity })) s.now)) }
+fn used_fit(rows: MapRows, n: usize) -> bool
+    requires { n ≤ rows.sizes.capacity }
+    ensures { result ≡ every (row_fits rows.entry.sizes.limits) (take n (rows_of (map_shape rows.entry.sizes) rows.entry.bytes.now)) }
 {
-    let mut i: usize = 0;
-    while i < n {
-        if row_fits(limits, s, cell, capacity, i) {
-            i += 1;
-        } else {
-            return false;
-        }
-    }
-    true
+    (0..n).all(|i| row_fits(rows, i))
 }
 
 // The first n rows, and zeros in all others.
-fn rows_fit(limits: Limits, s: &[u8], cell: usize, capacity: usize, n: usize) -> bool
-    requires { (cell ≡ cell_size_of limits) × Room (map_shape (record { limits = limits; capacity = capacity })) s.now × (n ≤ capacity) }
-    ensures { result ≡ rows_fit limits (map_shape (record { limits = limits; capacity = capacity })) n s.now }
+#[tactic(auto, unfolding(map_form::specs::MapTest::rows_fit))]
+fn rows_fit(rows: MapRows, n: usize) -> bool
+    requires { n ≤ rows.sizes.capacity }
+    ensures { result ≡ rows_fit rows.entry.sizes.limits (map_shape rows.entry.sizes) n rows.entry.bytes.now }
 {
-    if used_fit(limits, s, cell, capacity, n) {
-        let cells = MAP_FRONT + MAP_HEAD * capacity;
-        let free = MAP_FRONT + MAP_HEAD * n;
-        if number::is_zero(&s[free..cells]) {
-            let from = cells + cell * n;
-            let end = cells + cell * capacity;
-            return number::is_zero(&s[from..end]);
-        }
-    }
-    false
+    used_fit(rows, n) && rows.sizes.shape().unused_clear(rows.bytes, n)
 }
 
 // Sizes within the bounds, and no more rows in use than there are.
-fn sizes_fit(limits: Limits, capacity: u64, n: u64) -> bool
-    ensures { result ≡ sizes_fit (record { limits = limits; capacity = capacity }) n }
+#[tactic(auto, unfolding(map_form::specs::MapTest::sizes_fit))]
+fn sizes_fit(sizes: MapSizes, n: u64) -> bool
+    ensures { result ≡ sizes_fit sizes n }
 {
-    if refusals::limits_accepted(limits) {
-        if refusals::capacity_accepted(capacity) {
-            return n <= capacity;
-        }
-    }
-    false
+    refusals::limits_accepted(sizes.limits)
+        && refusals::capacity_accepted(sizes.capacity)
+        && n <= sizes.capacity
 }
 
 // Whether the bytes begin with a map, whatever their length and content.
+#[tactic(auto, unfolding(map_form::specs::MapTest::is_map))]
 pub fn is_map(s: &[u8]) -> bool
     ensures { result ≡ is_map s.now }
 {
     if s.len() < MAP_FRONT {
         return false;
     }
-    let limits = Limits {
-        mcl: number::read_u64(s, MCL_AT),
-        mcc: number::read_u64(s, MCC_AT),
-        mpl: number::read_u64(s, MPL_AT),
-    };
-    let capacity = number::read_u64(s, CAPACITY_AT);
-    let n = number::read_u64(s, COUNT_AT);
-    if sizes_fit(limits, capacity, n) {
-        let cell = 8 * (limits.mcc as usize + 1) + limits.mpl as usize;
-        let length = MAP_FRONT + (MAP_HEAD + cell) * capacity as usize;
-        if length <= s.len() {
-            return rows_fit(limits, s, cell, capacity as usize, n as usize);
-        }
-    }
-    false
+    let sizes = MapSizes::read(s);
+    let n = read_u64(s, COUNT_AT);
+    sizes_fit(sizes, n)
+        && sizes.sheet_length() <= s.len()
+        && rows_fit(MapRows { bytes: s, sizes }, n as usize)
 }

@@ -4,17 +4,18 @@
 pub mod inner;
 
 ghost use Rattle.std.specs.Prelude.{◌≡◌};
-ghost use Rattle.willow.specs.Answers.{tested_refusal};
+ghost use Rattle.willow.specs.Answers.{refusal_of};
 ghost use Rattle.map_form.specs.MapTest.{map_refusal};
 
-use willow::{Refusal, Tested};
+use willow::Refusal;
 
 // The test of a map: 2.
-pub fn test(sheet: &[u8]) -> Tested
-    ensures { tested_refusal result ≡ map_refusal sheet.now }
+pub fn test(sheet: &[u8]) -> Result<(), Refusal>
+    ensures { refusal_of result ≡ map_refusal sheet.now }
 {
     if inner::is_map(sheet) {
-        return Tested::Fine;
+        Ok(())
+    } else {
+        Err(Refusal::BadSheet)
     }
-    Tested::Refused(Refusal::BadSheet)
 }

@@ -1,3 +1,3 @@
 pub mod OverwritingLaws
 pub mod RecordLaws
-pub mod LoopLaws
+pub mod LibraryLaws

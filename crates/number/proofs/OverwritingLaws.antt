@@ -3,19 +3,18 @@
 use Prim.Native.Nat.{ℕ, zero, suc, ◌+◌, ◌-◌, ◌≤◌, ◌<◌}
 use mathlib.Core.Path.{◌≡◌, refl, sym, ◌∙◌, ap}
 use mathlib.Core.Logic.{◌↔◌}
-use mathlib.Core.Bool.{Bool, true, false, ◌&&◌}
+use mathlib.Core.Bool.{true}
 use mathlib.Core.List.{List, [], ◌∷◌, ◌++◌, append_assoc, append-nil}
 use native.Mathlib.Omega.{arith}
 use native.Mathlib.Nat.{add-zero}
 use lib.Dec.{eqb}
-use lib.ListN.{length, take, drop, get_or, set, length-append, length-take, length-drop, length-replicate, take-append-drop, drop_of_length-le, get_or-append}
-use lib.Seq.{take_at, drop_at, take-take, take-append-le, drop-append-le, take-append-add, drop-append-add, drop-drop, get_or-take, get_or-drop, length-take-le, sets, sets-eq}
+use lib.ListN.{length, take, drop, set, length-append, length-take, length-drop, length-replicate, take-append-drop, drop_of_length-le}
+use lib.Seq.{take_at, drop_at, take-take, take-append-le, drop-append-le, take-append-add, drop-append-add, drop-drop, length-take-le, sets, sets-eq}
 use borrow.Author.Tests.{eqb-true}
 use borrow.Rule.Slice.PartMut.{put_mid}
-use Rattle.willow.specs.Limits.{max_word}
 use Rattle.willow.specs.Numbers.{Bytes, le, unle, number_at}
 use Rattle.willow.proofs.Bools.{both_true}
-use Rattle.willow.proofs.NumberLaws.{bytes_append, bytes_take, bytes_drop, le_length, number_here}
+use Rattle.willow.proofs.NumberLaws.{number_here}
 use Rattle.number.specs.Overwriting.{overwrite, zeros, all_zero}
 
 -- PARTS OF A LIST.
@@ -65,11 +64,6 @@ module _ {A : Type 0} where
   overwrite_in_rest a s b at vs e =
       let z : b + at + length vs ≡ length a + (at + length vs) = omega arith in
       rw (z, ← e, take-append-add a s at, drop-append-add a s (at + length vs)) (simp append_assoc)
-
-  pub overwrite_in_middle : (front mid tail : List A) (b at : ℕ) (vs : List A) → length front ≡ b → at + length vs ≤ length mid
-      → overwrite (front ++ (mid ++ tail)) (b + at) vs ≡ front ++ (overwrite mid at vs ++ tail)
-  overwrite_in_middle front mid tail b at vs e h =
-      overwrite_in_rest front (mid ++ tail) b at vs e ∙ ap (λ l. front ++ l) (overwrite_in_front mid tail at vs h)
 
   pub overwrite_at_front : (s vs : List A) → overwrite s 0 vs ≡ vs ++ drop (length vs) s
   unfolding overwrite
@@ -156,22 +150,6 @@ module _ {A : Type 0} where
         ∙ drop-drop k (at + length vs) s
         ∙ ap (λ i. drop i s) m
 
-    -- ELEMENT BY ELEMENT.
-    pub element_written : (i : ℕ) (d : A) → i < length vs → get_or (overwrite s at vs) (at + i) d ≡ get_or vs i d
-    element_written i d h =
-        sym (get_or-drop at (overwrite s at vs) i d)
-        ∙ ap (λ l. get_or l i d) drop_written
-        ∙ get_or-append vs (drop (at + length vs) s) d i h
-
-    pub element_before : (i : ℕ) (d : A) → i < at → get_or (overwrite s at vs) i d ≡ get_or s i d
-    element_before i d h =
-        sym (get_or-take at (overwrite s at vs) i d h) ∙ rw (take_before at (omega arith)) (get_or-take at s i d h)
-
-    pub element_behind : (i : ℕ) (d : A) → at + length vs ≤ i → get_or (overwrite s at vs) i d ≡ get_or s i d
-    element_behind i d h =
-        let z : i + 0 ≡ i = omega arith in
-        rw (drop_behind i h, get_or-drop i s 0 d, z) at (sym (get_or-drop i (overwrite s at vs) 0 d))
-
   -- A WRITE WITHIN A PART IS A WRITE OVER THAT PART.
   pub take_around : (s : List A) (at : ℕ) (vs : List A) (n : ℕ) → at + length vs ≤ n → n ≤ length s
       → take n (overwrite s at vs) ≡ overwrite (take n s) at vs
@@ -194,27 +172,7 @@ module _ {A : Type 0} where
   part_around s p m k vs h f =
       ap (take m) (drop_around s p k vs (omega arith)) ∙ take_around (drop p s) k vs m h (simp length-drop (omega arith))
 
-  -- a part that was written over is put back
-  pub overwrite_part : (s : List A) (p m k : ℕ) (vs : List A) → k + length vs ≤ m → p + m ≤ length s
-      → overwrite s p (overwrite (take m (drop p s)) k vs) ≡ overwrite s (p + k) vs
-  overwrite_part s p m k vs h f =
-      let front : length (take p s) ≡ p = length-take-le p s (omega arith) in
-      let mid : length (take m (drop p s)) ≡ m = length_part s p m f in
-      let new : List A = overwrite (take m (drop p s)) k vs in
-      let same = length_overwrite (take m (drop p s)) k vs (omega arith) in
-      ap (λ t. overwrite t p new) (three_parts s p m)
-      ∙ overwrite_seam (take p s) (take m (drop p s)) (drop (p + m) s) new p front (sym same)
-      ∙ sym (ap (λ t. overwrite t (p + k) vs) (three_parts s p m) ∙ overwrite_in_middle (take p s) (take m (drop p s)) (drop (p + m) s) p k vs front (omega arith))
-
-  -- TWO WRITES. The second lies within the first; it covers it; it follows it; they are apart.
-  pub overwrite_in_written : (s : List A) (at : ℕ) (vs : List A) (k : ℕ) (ws : List A) → k + length ws ≤ length vs → at + length vs ≤ length s
-      → overwrite (overwrite s at vs) (at + k) ws ≡ overwrite s at (overwrite vs k ws)
-  overwrite_in_written s at vs k ws h f =
-      let front : length (take at s) ≡ at = length-take-le at s (omega arith) in
-      ap (λ t. overwrite t (at + k) ws) (overwrite_is s at vs)
-      ∙ overwrite_in_middle (take at s) vs (drop (at + length vs) s) at k ws front h
-      ∙ sym (overwrite_is s at (overwrite vs k ws) ∙ rw (length_overwrite vs k ws h))
-
+  -- TWO WRITES. The second covers the first; it follows it.
   pub overwrite_twice : (s : List A) (at : ℕ) (vs ws : List A) → length vs ≤ length ws → at + length ws ≤ length s
       → overwrite (overwrite s at vs) at ws ≡ overwrite s at ws
   overwrite_twice s at vs ws h f =
@@ -235,63 +193,17 @@ module _ {A : Type 0} where
   written_on s vs ws t u at p e h x y =
       y ∙ ap (λ l. overwrite l p ws) x ∙ rw e at (overwrite_append s at vs ws (omega arith))
 
-  pub overwrite_commute : (s : List A) (at : ℕ) (vs : List A) (p : ℕ) (ws : List A) → at + length vs ≤ p → p + length ws ≤ length s
-      → overwrite (overwrite s at vs) p ws ≡ overwrite (overwrite s p ws) at vs
-  overwrite_commute s at vs p ws h k =
-      let a : List A = take p s in
-      let b : List A = drop p s in
-      let l : length a ≡ p = length-take-le p s (omega arith) in
-      let l' : length (overwrite a at vs) ≡ p = length_overwrite a at vs (omega arith) ∙ l in
-      let z : p + 0 ≡ p = omega arith in
-      let first : overwrite s at vs ≡ overwrite a at vs ++ b =
-      ap (λ t. overwrite t at vs) (sym (take-append-drop p s)) ∙ overwrite_in_front a b at vs (omega arith) in
-      let second : overwrite s p ws ≡ a ++ overwrite b 0 ws =
-      ap (λ t. overwrite t p ws) (sym (take-append-drop p s)) ∙ rw z at (overwrite_in_rest a b p 0 ws l) in
-      ap (λ t. overwrite t p ws) first
-      ∙ rw z at (overwrite_in_rest (overwrite a at vs) b p 0 ws l')
-      ∙ sym (ap (λ t. overwrite t at vs) second ∙ overwrite_in_front a (overwrite b 0 ws) at vs (omega arith))
-
--- NUMBERS. The number in what was written, and the number that was written:
+-- NUMBERS: one in what was written.
 module _ (s : List ℕ) (at : ℕ) (vs : List ℕ) (inside : at + length vs ≤ length s) where
   pub number_in_written : (p : ℕ) → p + 8 ≤ length vs → number_at (overwrite s at vs) (at + p) ≡ number_at vs p
   unfolding number_at
   number_in_written p h = ap unle (part_in_written s at vs inside p 8 h)
 
-  -- a number before and behind a write
-  pub number_before_write : (p : ℕ) → p + 8 ≤ at → number_at (overwrite s at vs) p ≡ number_at s p
-  unfolding number_at
-  number_before_write p h = ap unle (part_before s at vs inside p 8 h)
-
-  pub number_behind_write : (p : ℕ) → at + length vs ≤ p → number_at (overwrite s at vs) p ≡ number_at s p
-  unfolding number_at
-  number_behind_write p h = ap (λ l. unle (take 8 l)) (drop_behind s at vs inside p h)
-
-module _ (s : List ℕ) (at x : ℕ) (inside : at + 8 ≤ length s) where
-  number_inside : at + length (le 8 x) ≤ length s
-  number_inside = rw (le_length 8 x) inside
-
-  pub number_written : x ≤ max_word → number_at (overwrite s at (le 8 x)) at ≡ x
-  number_written h =
-      number_here (overwrite s at (le 8 x)) at x (drop (at + length (le 8 x)) s) (drop_written s at (le 8 x) number_inside) h
-
-  pub number_before_number : (p : ℕ) → p + 8 ≤ at → number_at (overwrite s at (le 8 x)) p ≡ number_at s p
-  number_before_number p h = number_before_write s at (le 8 x) number_inside p h
-
-  pub number_behind_number : (p : ℕ) → at + 8 ≤ p → number_at (overwrite s at (le 8 x)) p ≡ number_at s p
-  number_behind_number p h = number_behind_write s at (le 8 x) number_inside p (rw (le_length 8 x) h)
-
--- BYTES.
-pub bytes_overwrite : (s : List ℕ) (at : ℕ) (vs : List ℕ) → Bytes s → Bytes vs → Bytes (overwrite s at vs)
-unfolding overwrite
-bytes_overwrite s at vs h k =
-    let n : ℕ = at + length vs in
-    bytes_append (take at s) (vs ++ drop n s) (bytes_take at s h) (bytes_append vs (drop n s) k (bytes_drop n s h))
-
+-- ZEROS.
 pub bytes_zeros : (n : ℕ) → Bytes (zeros n)
 bytes_zeros zero = tt
 bytes_zeros (suc n) = (omega arith, bytes_zeros n)
 
--- ZEROS.
 pub length_zeros : (n : ℕ) → length (zeros n) ≡ n
 length_zeros n = length-replicate n 0
 
@@ -332,20 +244,3 @@ zeros_by_test (b ∷ bs) h =
 
 pub all_zero_exactly : (s : List ℕ) → (all_zero s ≡ true) ↔ (s ≡ zeros (length s))
 all_zero_exactly s = (zeros_by_test s, λ e. ap all_zero e ∙ all_zero_zeros (length s))
-
-pub all_zero_append : (s t : List ℕ) → all_zero (s ++ t) ≡ (all_zero s && all_zero t)
-all_zero_append [] t = refl
-all_zero_append (b ∷ bs) t = go (eqb b 0) (all_zero_append bs t)
-  where
-    go : (e : Bool) → all_zero (bs ++ t) ≡ (all_zero bs && all_zero t) → (e && all_zero (bs ++ t)) ≡ ((e && all_zero bs) && all_zero t)
-    go true h = h
-    go false h = refl
-
--- all is zero exactly if a front and the rest are
-pub all_zero_cut : (n : ℕ) (s : List ℕ) → all_zero s ≡ (all_zero (take n s) && all_zero (drop n s))
-all_zero_cut n s = ap all_zero (sym (take-append-drop n s)) ∙ all_zero_append (take n s) (drop n s)
-
-pub all_zero_part : (s : List ℕ) (p m : ℕ) → all_zero s ≡ true → all_zero (take m (drop p s)) ≡ true
-all_zero_part s p m h =
-    let rest = (both_true (all_zero (take p s)) (all_zero (drop p s)) (sym (all_zero_cut p s) ∙ h)).1 in
-    (both_true (all_zero (take m (drop p s))) (all_zero (drop m (drop p s))) (sym (all_zero_cut m (drop p s)) ∙ rest)).0

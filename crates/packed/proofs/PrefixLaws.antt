@@ -1,6 +1,7 @@
 -- The first k components of a packed path: how many bytes they have, that these lie inside the buffer, and that their packed
 -- form is written by three writes, each from where the one before it ended.
 use Rattle.std.proofs.Common.{◌≡◌, ℕ, zero, suc, ◌+◌, ◌-◌, ◌*◌, ◌<◌, ◌≤◌, List, [], ◌++◌, length, get_or, take, drop, sym, refl, ap, ◌∙◌, append_assoc, arith, length-append, length-drop, length-take, length-take-le, get_or-take}
+use lib.Seq.{take-take}
 use Rattle.willow.specs.Answers.{path_in}
 use Rattle.willow.specs.Numbers.{Bytes, le, number_at}
 use Rattle.willow.specs.Packed.{pack, packed_count, length_before, unpack, widest}
@@ -38,6 +39,11 @@ front b k r =
 pub front_component : (b : List ℕ) (k i : ℕ) → i < k → get_or (path_in b k) i [] ≡ get_or (unpack b) i []
 unfolding path_in
 front_component b k i h = get_or-take k (unpack b) i [] h
+
+-- the first n of the first k components
+pub prefix_in : (b : List ℕ) (k n : ℕ) → n ≤ k → take n (path_in b k) ≡ path_in b n
+unfolding path_in
+prefix_in b k n h = take-take n k (unpack b) h
 
 -- PUTTING A PREFIX: the count, the front of the table and the front of the bytes, as the code cuts them out, make its packed
 -- form. m is the count in the buffer and e the length before component n.

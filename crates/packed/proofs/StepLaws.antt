@@ -31,24 +31,35 @@ module _ (mcl most : ℕ) (b : List ℕ) (at from : ℕ) where
   steps_end zero h = refl
   steps_end (suc r) h = absurd (omega arith)
 
--- BY THE BITS. While their number is at most MCL, what is left decides as the whole does; and no more was passed than the steps
--- can sum up to, which is below 2^64.
+-- LENGTH i of the table, and what is left to test behind it.
 module _ (mcl most : ℕ) (b : List ℕ) (n : ℕ) where
-  pub record Passed (from at left : ℕ) : Type 0 where
-    pub same : steps_within mcl most b left at from ≡ steps_within mcl most b n 8 0
-    pub low : from ≤ 4294967295 * (n - left)
+  pub steps_first : steps_within mcl most b (n - 0) (8 + 8 * 0) 0 ≡ steps_within mcl most b n 8 0
+  steps_first = let m : n - 0 ≡ n = omega arith in rw m
 
-  pub passed_none : Passed 0 8 n
-  passed_none = record { same = refl; low = omega arith }
+  pub steps_next : (i from next : ℕ) → i < n → next ≡ number_at b (8 + 8 * i) → from ≤ next → next - from ≤ mcl
+      → steps_within mcl most b (n - (i + 1)) (8 + 8 * (i + 1)) next ≡ steps_within mcl most b (n - i) (8 + 8 * i) from
+  steps_next i from next h e p q =
+      let left : n - i - 1 ≡ n - (i + 1) = omega arith in
+      let at : 8 + 8 * i + 8 ≡ 8 + 8 * (i + 1) = omega arith in
+      sym (rw (left, at) at (steps_on mcl most b (8 + 8 * i) from (n - i) next (omega arith) e p q))
+
+  -- BY THE BITS. While their number is at most MCL, what is left decides as the whole does; and no more was passed than the steps
+  -- can sum up to, which is below 2^64.
+  pub record Passed (from i : ℕ) : Type 0 where
+    pub same : steps_within mcl most b (n - i) (8 + 8 * i) from ≡ steps_within mcl most b n 8 0
+    pub low : from ≤ 4294967295 * i
+
+  pub passed_none : Passed 0 0
+  passed_none = record { same = steps_first; low = omega arith }
 
   -- a step that is low enough, modulo 2^64, does not wrap
-  pub passed_on : mcl ≤ 4294967295 → n ≤ 4294967295 → (from at left next step : ℕ) → Passed from at left → 0 < left → left ≤ n
-      → next ≡ number_at b at → (step + from) % 2 ^ 64 ≡ next → step ≤ mcl → Passed next (at + 8) (left - 1)
-  passed_on small few from at left next step p h k e w s =
+  pub passed_on : mcl ≤ 4294967295 → n ≤ 4294967295 → (from i next step : ℕ) → Passed from i → i < n → next < 2 ^ 64
+      → next ≡ number_at b (8 + 8 * i) → step ≡ (next + (2 ^ 64 - from)) % 2 ^ 64 → step ≤ mcl → Passed next (i + 1)
+  passed_on small few from i next step p h k e w s =
       let l = p.low in
       let sum : step + from ≡ next = omega arith in
       record {
-        same = sym (steps_on mcl most b at from left next h e (omega arith) (omega arith)) ∙ p.same;
+        same = steps_next i from next h e (omega arith) (omega arith) ∙ p.same;
         low = omega arith;
       }
 

@@ -1,62 +1,65 @@
 -- Two paths are walked side by side from an index on: a turn meets their components there, and each of the two ends. What
 -- the walk counts then answers the questions of equality, prefix and relatedness.
-use Rattle.std.proofs.Common.{◌≡◌, ℕ, suc, ◌+◌, ◌<◌, ◌≤◌, Bool, false, cond, ◌&&◌, ◌||◌, eqb, List, [], ◌∷◌, length, get_or, drop, sym, refl, ap, ◌∙◌, ap₂, add-one, arith, drop_of_length-le, drop-cons, ne_eqb}
+use Rattle.std.proofs.Common.{◌≡◌, ℕ, suc, ◌+◌, ◌<◌, ◌≤◌, Bool, true, false, cond, ◌&&◌, ◌||◌, eqb, [], ◌∷◌, length, get_or, drop, sym, refl, ◌∙◌, ap₂, add-one, arith, drop_of_length-le, drop-cons, eq-eqb, ne_eqb}
 use lib.Dec.{eqb-zero-suc, eqb-suc-suc}
-use Rattle.willow.specs.declared.Order.{Order}
-use Rattle.willow.specs.declared.Order.TheVariants.{Less, Equal, Greater}
-use Rattle.willow.specs.Answers.{path_in}
+use Rattle.std.specs.Ordering.{MatchOrdering, is_ne, nat_cmp}
+use Rattle.std.proofs.lemmas.Cmp.{ranked}
+use native.Mathlib.Decide.{dec_lt}
+use mathlib.Core.Bool.{false≢true}
+use Prim.Native.Nat.{min}
+use Rattle.std.specs.declared.cmp.Ordering.{Ordering}
+use Rattle.std.specs.declared.cmp.Ordering.TheVariants.{Less, Equal, Greater}
 use Rattle.willow.specs.Orders.{is_equal, reverse, then}
-use Rattle.willow.specs.Packed.{unpack}
 use Rattle.willow.specs.Paths.{Component, Path, compare_components, compare_paths, is_prefix_of, is_related, common_count}
 use Rattle.willow.proofs.PathLaws.{components_total, common_means}
-use Rattle.packed.specs.Readable.{Readable}
 use Rattle.component.proofs.ComponentLaws.{lists_by, lists_longer, lists_shorter, lists_ended, lists_apart}
-use Rattle.packed.proofs.PrefixLaws.{front, front_component}
+use Rattle.packed.specs.declared.lent.LentPath.{LentPath}
+use Rattle.packed.specs.LentPaths.{path_of}
+use Rattle.packed.proofs.PrefixLaws.{front}
 
--- TWO LENT PATHS, in the numbers of the code: x and y are the components that were read at i.
-module _ (a : List ℕ) (ca : ℕ) (b : List ℕ) (cb : ℕ) (r : Readable a ca) (s : Readable b cb) (i : ℕ) where
-  inside_first : i < ca → i < length (path_in a ca)
-  inside_first h = omega (arith, front a ca r)
+-- WHICH OF TWO ANSWERS DECIDES.
+then_decided : (o r : Ordering) → is_ne o ≡ true → then o r ≡ o
+then_decided Less r n = refl
+then_decided Equal r n = absurd (false≢true n)
+then_decided Greater r n = refl
 
-  inside_second : i < cb → i < length (path_in b cb)
-  inside_second h = omega (arith, front b cb s)
+then_passed : (o r : Ordering) → is_ne o ≡ false → then o r ≡ r
+then_passed Less r n = absurd (false≢true (sym n))
+then_passed Equal r n = refl
+then_passed Greater r n = absurd (false≢true (sym n))
 
-  past_first : ca ≤ i → length (path_in a ca) ≤ i
-  past_first h = omega (arith, front a ca r)
+-- TWO PATHS FROM i ON: x and y are the components that were read there.
+module _ (p q : Path) (i : ℕ) where
+  module _ (x y : Component) (h : i < length p) (k : i < length q) (ex : x ≡ get_or p i []) (ey : y ≡ get_or q i []) where
+    compare_turn : (o : Ordering) → o ≡ compare_components x y → compare_paths (drop i p) (drop i q) ≡ then o (compare_paths (drop (i + 1) p) (drop (i + 1) q))
+    compare_turn o e = lists_by compare_components p q i [] o h k (e ∙ ap₂ compare_components ex ey)
 
-  past_second : cb ≤ i → length (path_in b cb) ≤ i
-  past_second h = omega (arith, front b cb s)
+    -- components that are not equal decide, and behind others the rest does
+    pub compare_decided : (o : Ordering) → o ≡ compare_components x y → is_ne o ≡ true → compare_paths (drop i p) (drop i q) ≡ o
+    compare_decided o e n = compare_turn o e ∙ then_decided o (compare_paths (drop (i + 1) p) (drop (i + 1) q)) n
 
-  module _ (x y : Component) (h : i < ca) (k : i < cb) (ex : x ≡ get_or (unpack a) i []) (ey : y ≡ get_or (unpack b) i []) where
-    met : compare_components x y ≡ compare_components (get_or (path_in a ca) i []) (get_or (path_in b cb) i [])
-    met = ap₂ compare_components (ex ∙ sym (front_component a ca i h)) (ey ∙ sym (front_component b cb i k))
-
-    pub compare_turn : (o : Order) → o ≡ compare_components x y
-        → compare_paths (drop i (path_in a ca)) (drop i (path_in b cb)) ≡ then o (compare_paths (drop (i + 1) (path_in a ca)) (drop (i + 1) (path_in b cb)))
-    compare_turn o e = lists_by compare_components (path_in a ca) (path_in b cb) i [] o (inside_first h) (inside_second k) (e ∙ met)
+    pub compare_passed : (o : Ordering) → o ≡ compare_components x y → is_ne o ≡ false
+        → compare_paths (drop i p) (drop i q) ≡ compare_paths (drop (i + 1) p) (drop (i + 1) q)
+    compare_passed o e n = compare_turn o e ∙ then_passed o (compare_paths (drop (i + 1) p) (drop (i + 1) q)) n
 
     pub common_turn : (same : Bool) → same ≡ is_equal (compare_components x y)
-        → common_count (drop i (path_in a ca)) (drop i (path_in b cb))
-        ≡ cond same (suc (common_count (drop (i + 1) (path_in a ca)) (drop (i + 1) (path_in b cb)))) 0
-    common_turn same e =
-        let same_there : same ≡ is_equal (compare_components (get_or (path_in a ca) i []) (get_or (path_in b cb) i [])) = e ∙ ap is_equal met in
-        rw (add-one i, drop-cons (path_in a ca) i [] (inside_first h), drop-cons (path_in b cb) i [] (inside_second k), same_there)
+        → common_count (drop i p) (drop i q) ≡ cond same (suc (common_count (drop (i + 1) p) (drop (i + 1) q))) 0
+    common_turn same e = rw (add-one i, drop-cons p i [] h, drop-cons q i [] k, e, ex, ey)
 
   -- where one of them has ended, or both
-  pub common_ended : ca ≤ i → common_count (drop i (path_in a ca)) (drop i (path_in b cb)) ≡ 0
-  common_ended h = rw (drop_of_length-le (path_in a ca) (past_first h))
+  pub common_over : min (length p) (length q) ≤ i → common_count (drop i p) (drop i q) ≡ 0
+  common_over h = elim (dec_lt i (length p)) [
+    | yes k ↦ let past : length q ≤ i = omega arith in rw (drop-cons p i [] k, drop_of_length-le q past)
+    | no k ↦ let past : length p ≤ i = omega arith in rw (drop_of_length-le p past)
+  ]
 
-  pub common_short : i < ca → cb ≤ i → common_count (drop i (path_in a ca)) (drop i (path_in b cb)) ≡ 0
-  common_short h k = rw (drop-cons (path_in a ca) i [] (inside_first h), drop_of_length-le (path_in b cb) (past_second k))
-
-  pub compare_longer : i < ca → cb ≤ i → compare_paths (drop i (path_in a ca)) (drop i (path_in b cb)) ≡ Greater
-  compare_longer h k = lists_longer compare_components (path_in a ca) (path_in b cb) i [] (inside_first h) (past_second k)
-
-  pub compare_shorter : ca ≤ i → i < cb → compare_paths (drop i (path_in a ca)) (drop i (path_in b cb)) ≡ Less
-  compare_shorter h k = lists_shorter compare_components (path_in a ca) (path_in b cb) i [] (past_first h) (inside_second k)
-
-  pub compare_ended : ca ≤ i → cb ≤ i → compare_paths (drop i (path_in a ca)) (drop i (path_in b cb)) ≡ Equal
-  compare_ended h k = lists_ended compare_components (path_in a ca) (path_in b cb) i (past_first h) (past_second k)
+  pub compare_over : (o : Ordering) → o ≡ nat_cmp (length p) (length q) → i ≡ min (length p) (length q) → compare_paths (drop i p) (drop i q) ≡ o
+  compare_over o e m = go o (ranked (length p) (length q) o e)
+    where
+      go : (o : Ordering) → MatchOrdering o (length p < length q) (length p ≡ length q) (length q < length p) → compare_paths (drop i p) (drop i q) ≡ o
+      go Less h = lists_shorter compare_components p q i [] (omega arith) (omega arith)
+      go Equal h = lists_ended compare_components p q i (omega arith) (omega arith)
+      go Greater h = lists_longer compare_components p q i [] (omega arith) (omega arith)
 
 -- WHAT THE COUNT SAYS. The first is a prefix exactly if all of its components are common.
 pub prefix_by_count : (p q : Path) → is_prefix_of p q ≡ eqb (common_count p q) (length p)
@@ -64,7 +67,7 @@ prefix_by_count [] q = refl
 prefix_by_count (c ∷ cs) [] = sym (eqb-zero-suc (length cs))
 prefix_by_count (c ∷ cs) (d ∷ ds) = go (compare_components c d) (prefix_by_count cs ds)
   where
-    go : (o : Order) → is_prefix_of cs ds ≡ eqb (common_count cs ds) (length cs)
+    go : (o : Ordering) → is_prefix_of cs ds ≡ eqb (common_count cs ds) (length cs)
         → is_equal o && is_prefix_of cs ds ≡ eqb (cond (is_equal o) (suc (common_count cs ds)) 0) (suc (length cs))
     go Less h = sym (eqb-zero-suc (length cs))
     go Equal h = h ∙ sym (eqb-suc-suc (common_count cs ds) (length cs))
@@ -83,13 +86,13 @@ equal_by_prefix [] (d ∷ ds) e = absurd (omega arith)
 equal_by_prefix (c ∷ cs) [] e = absurd (omega arith)
 equal_by_prefix (c ∷ cs) (d ∷ ds) e = go (compare_components c d) (equal_by_prefix cs ds (omega arith))
   where
-    go : (o : Order) → is_equal (compare_paths cs ds) ≡ is_prefix_of cs ds → is_equal (then o (compare_paths cs ds)) ≡ is_equal o && is_prefix_of cs ds
+    go : (o : Ordering) → is_equal (compare_paths cs ds) ≡ is_prefix_of cs ds → is_equal (then o (compare_paths cs ds)) ≡ is_equal o && is_prefix_of cs ds
     go Less h = refl
     go Equal h = h
     go Greater h = refl
 
 -- The count is the same the other way round, so that the two are related exactly if it is one of the lengths.
-equal_reverse : (o : Order) → is_equal (reverse o) ≡ is_equal o
+equal_reverse : (o : Ordering) → is_equal (reverse o) ≡ is_equal o
 equal_reverse Less = refl
 equal_reverse Equal = refl
 equal_reverse Greater = refl
@@ -104,23 +107,30 @@ pub related_by_count : (p q : Path) → is_related p q ≡ eqb (common_count p q
 unfolding is_related
 related_by_count p q = rw (prefix_by_count p q, prefix_by_count q p, common_flip p q)
 
--- THE ANSWERS of two lent paths: n is how many components they have in common.
-module _ (a : List ℕ) (ca : ℕ) (b : List ℕ) (cb : ℕ) (r : Readable a ca) (s : Readable b cb) where
+-- THE ANSWERS of two lent paths, which have as many components as they count: n is how many they have in common.
+pub counted : (p : LentPath) → length (path_of p) ≡ p.count
+counted p = (front p.bytes.now p.count p.readable).count
+
+module _ (p q : LentPath) where
   -- of different counts they are not equal, and a longer one is no prefix
-  pub not_equal : (ca ≡ cb → ⊥) → is_equal (compare_paths (path_in a ca) (path_in b cb)) ≡ false
-  not_equal d = lists_apart compare_components (path_in a ca) (path_in b cb) (λ e. d (sym (front a ca r).count ∙ e ∙ (front b cb s).count))
+  pub not_equal : (p.count ≡ q.count → ⊥) → is_equal (compare_paths (path_of p) (path_of q)) ≡ false
+  not_equal d = lists_apart compare_components (path_of p) (path_of q) (λ e. d (sym (counted p) ∙ e ∙ counted q))
 
-  pub not_prefix : cb < ca → is_prefix_of (path_in a ca) (path_in b cb) ≡ false
-  not_prefix h = prefix_longer (path_in a ca) (path_in b cb) (omega (arith, front a ca r, front b cb s))
+  pub not_prefix : q.count < p.count → is_prefix_of (path_of p) (path_of q) ≡ false
+  not_prefix h = prefix_longer (path_of p) (path_of q) (omega (arith, counted p, counted q))
 
-  module _ (n : ℕ) (e : n ≡ common_count (path_in a ca) (path_in b cb)) where
-    pub prefix_counted : is_prefix_of (path_in a ca) (path_in b cb) ≡ eqb n ca
-    prefix_counted = prefix_by_count (path_in a ca) (path_in b cb) ∙ ap₂ eqb (sym e) (front a ca r).count
+  module _ (n : ℕ) (e : n ≡ common_count (path_of p) (path_of q)) where
+    pub prefix_counted : is_prefix_of (path_of p) (path_of q) ≡ eqb n p.count
+    prefix_counted = prefix_by_count (path_of p) (path_of q) ∙ ap₂ eqb (sym e) (counted p)
 
-    pub equal_counted : ca ≡ cb → is_equal (compare_paths (path_in a ca) (path_in b cb)) ≡ eqb n ca
-    equal_counted h = equal_by_prefix (path_in a ca) (path_in b cb) ((front a ca r).count ∙ h ∙ sym (front b cb s).count) ∙ prefix_counted
+    pub equal_counted : p.count ≡ q.count → is_equal (compare_paths (path_of p) (path_of q)) ≡ eqb n p.count
+    equal_counted h = equal_by_prefix (path_of p) (path_of q) (counted p ∙ h ∙ sym (counted q)) ∙ prefix_counted
 
-    pub related_counted : is_related (path_in a ca) (path_in b cb) ≡ eqb n ca || eqb n cb
-    related_counted =
-        related_by_count (path_in a ca) (path_in b cb)
-        ∙ ap₂ ◌||◌ (ap₂ eqb (sym e) (front a ca r).count) (ap₂ eqb (sym e) (front b cb s).count)
+    related_counted : is_related (path_of p) (path_of q) ≡ eqb n p.count || eqb n q.count
+    related_counted = related_by_count (path_of p) (path_of q) ∙ ap₂ ◌||◌ (ap₂ eqb (sym e) (counted p)) (ap₂ eqb (sym e) (counted q))
+
+    pub related_first : n ≡ p.count → is_related (path_of p) (path_of q) ≡ eqb n p.count
+    related_first h = related_counted ∙ rw (eq-eqb n p.count h)
+
+    pub related_second : (n ≡ p.count → ⊥) → is_related (path_of p) (path_of q) ≡ eqb n q.count
+    related_second d = related_counted ∙ rw (ne_eqb n p.count d)

@@ -1,2 +1,4 @@
 pub mod Readable
 pub mod Steps
+pub mod LentPaths
+pub mod LentOrders

@@ -1,23 +1,16 @@
-// The functions on packed paths that the calls rest on (representation.rs, and the walks of path/mod.rs). They are not open to
-// a caller: most require a buffer that was tested.
+// The functions on packed buffers that the calls rest on (representation.rs). They are not open to a caller: most require a buffer
+// that was tested. The walks of path/mod.rs are methods of `LentPath`. The loops over a table go by index: the proofs read its numbers by
+// their places.
 
 ghost use Rattle.std.specs.Prelude.{◌≡◌, ◌+◌, ◌*◌, ◌<◌, ◌≤◌, true, ◌&&◌, [], length, slice_index_or};
 ghost use Rattle.number.specs.Overwriting.{overwrite};
 ghost use Rattle.willow.specs.Answers.{path_in};
-ghost use Rattle.willow.specs.Orders.{is_equal};
 ghost use Rattle.willow.specs.Packed.{length_before, pack, Packed, packed_count, steps_fit, unpack, well_formed};
-ghost use Rattle.willow.specs.Paths.{common_count, compare_paths, is_prefix_of, is_related, path_length};
+ghost use Rattle.willow.specs.Paths.{path_length};
 ghost use Rattle.packed.specs.Readable.{Readable};
 ghost use Rattle.packed.specs.Steps.{steps_within};
 
-use willow::{Limits, Order};
-
-// The bits of either number: as a number no smaller than each.
-fn either(a: u64, b: u64) -> u64
-    ensures { (a ≤ result) × (b ≤ result) }
-{
-    a | b
-}
+use willow::Limits;
 
 // Whether the bits of all steps together are at most MCL as a number. Then so is each step; but steps that are within may fail.
 // They are taken modulo 2^64: with fewer than 2^32 of them, and each below 2^32, no sum wraps, so no length falls. The loop is not
@@ -26,21 +19,15 @@ fn bits_within(mcl: u64, most: u64, b: &[u8], n: usize) -> bool
     requires { 8 + 8 * n ≤ length b.now }
     ensures { result ≡ true → steps_within mcl most b.now n 8 0 ≡ true }
 {
-    if 4294967295 < mcl {
+    if u64::from(u32::MAX) < mcl || u64::from(u32::MAX) < n as u64 {
         return false;
     }
-    if 4294967295 < n {
-        return false;
-    }
-    let end = 8 + 8 * n;
     let mut bits: u64 = 0;
     let mut from: u64 = 0;
-    let mut at: usize = 8;
-    while at < end {
-        let next = number::read_u64(b, at);
-        bits = either(bits, std::num::wrapping_sub_u64(next, from));
+    for i in 0..n {
+        let next = number::read_u64(b, 8 + 8 * i);
+        bits |= next.wrapping_sub(from);
         from = next;
-        at += 8;
     }
     if most < from {
         return false;
@@ -54,16 +41,12 @@ pub fn steps_within(mcl: u64, most: u64, b: &[u8], n: usize) -> bool
     requires { 8 + 8 * n ≤ length b.now }
     ensures { result ≡ steps_within mcl most b.now n 8 0 }
 {
-    if 16 <= n {
-        if bits_within(mcl, most, b, n) {
-            return true;
-        }
+    if 16 <= n && bits_within(mcl, most, b, n) {
+        return true;
     }
-    let end = 8 + 8 * n;
     let mut from: u64 = 0;
-    let mut at: usize = 8;
-    while at < end {
-        let next = number::read_u64(b, at);
+    for i in 0..n {
+        let next = number::read_u64(b, 8 + 8 * i);
         if next < from {
             return false;
         }
@@ -71,7 +54,6 @@ pub fn steps_within(mcl: u64, most: u64, b: &[u8], n: usize) -> bool
             return false;
         }
         from = next;
-        at += 8;
     }
     from <= most
 }
@@ -82,10 +64,7 @@ fn steps_fit(limits: Limits, b: &[u8], n: usize) -> bool
     ensures { result ≡ steps_fit limits b.now n 8 0 }
 {
     let bytes = b.len() - (8 + 8 * n);
-    if length_before(b, n) == bytes {
-        return steps_within(limits.mcl, limits.mpl, b, n);
-    }
-    false
+    length_before(b, n) == bytes && steps_within(limits.mcl, limits.mpl, b, n)
 }
 
 // Whether the bytes are the packed form of a path within the limits, whatever their length and content.
@@ -144,80 +123,8 @@ pub fn path_length(b: &[u8], n: usize) -> usize
     length_before(b, n)
 }
 
-// How many leading components of two paths are equal.
-pub fn common(a: &[u8], ca: usize, b: &[u8], cb: usize) -> usize
-    requires { Readable a.now ca × Readable b.now cb }
-    ensures { result ≡ common_count (path_in a.now ca) (path_in b.now cb) }
-{
-    let mut i = 0;
-    while i < ca {
-        if cb <= i {
-            return i;
-        }
-        if component::equal(component(a, i), component(b, i)) {
-            i += 1;
-        } else {
-            return i;
-        }
-    }
-    i
-}
-
-// The order of two paths.
-pub fn compare(a: &[u8], ca: usize, b: &[u8], cb: usize) -> Order
-    requires { Readable a.now ca × Readable b.now cb }
-    ensures { result ≡ compare_paths (path_in a.now ca) (path_in b.now cb) }
-{
-    let mut i = 0;
-    while i < ca {
-        if cb <= i {
-            return Order::Greater;
-        }
-        match component::compare(component(a, i), component(b, i)) {
-            Order::Less => return Order::Less,
-            Order::Greater => return Order::Greater,
-            Order::Equal => {}
-        }
-        i += 1;
-    }
-    if i < cb { Order::Less } else { Order::Equal }
-}
-
-// Whether two paths are equal: of different counts they are not.
-pub fn is_equal(a: &[u8], ca: usize, b: &[u8], cb: usize) -> bool
-    requires { Readable a.now ca × Readable b.now cb }
-    ensures { result ≡ is_equal (compare_paths (path_in a.now ca) (path_in b.now cb)) }
-{
-    if ca == cb {
-        return common(a, ca, b, cb) == ca;
-    }
-    false
-}
-
-// Whether the first path is a prefix of the second: a longer one is not.
-pub fn is_prefix_of(a: &[u8], ca: usize, b: &[u8], cb: usize) -> bool
-    requires { Readable a.now ca × Readable b.now cb }
-    ensures { result ≡ is_prefix_of (path_in a.now ca) (path_in b.now cb) }
-{
-    if ca <= cb {
-        return common(a, ca, b, cb) == ca;
-    }
-    false
-}
-
-// Whether one of the two is a prefix of the other.
-pub fn is_related(a: &[u8], ca: usize, b: &[u8], cb: usize) -> bool
-    requires { Readable a.now ca × Readable b.now cb }
-    ensures { result ≡ is_related (path_in a.now ca) (path_in b.now cb) }
-{
-    let n = common(a, ca, b, cb);
-    if n == ca {
-        return true;
-    }
-    n == cb
-}
-
-// The packed form of the first n components, written over the front of out.
+// The packed form of the first n components, written over the front of out. As the body of `LentPath::put` it was tried, and the proof
+// did not close: that the buffer holds bytes is known of a parameter, and not of a field.
 pub fn put_prefix(b: &[u8], n: usize, out: &mut [u8])
     requires { Readable b.now n × (8 + 8 * n + path_length (path_in b.now n) ≤ length out.old) }
     ensures { out.new ≡ overwrite out.old 0 (pack (path_in b.now n)) }

@@ -2,3 +2,6 @@
 #![tactic(auto)]
 
 pub mod inner;
+pub mod lent;
+pub mod paths;
+mod writable;

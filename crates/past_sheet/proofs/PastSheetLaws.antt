@@ -17,8 +17,9 @@ use Rattle.map_form.specs.Maps as maps
 use Rattle.map_form.specs.MapTest.{is_map, map_refusal}
 use Rattle.map_form.proofs.MapProofs.{map_reading}
 use Rattle.map_law.specs.Insertions.{AreaArgument, Insertion, parts_in, kinds_missing, area_refusal, area_passed, room_refusal, insert_refusal, insert_answer}
-use Rattle.map_reading.specs.Rules.{no_rule, rule_parts, count_outcome, rule_read, rule_path}
-use Rattle.map_reading.proofs.RuleAtLaws.{rules_many}
+use Rattle.map_rules.specs.RulePlaces.{no_rule, rule_parts}
+use Rattle.map_rules.proofs.RuleAtLaws.{rules_many}
+use Rattle.map_reading.specs.Rules.{count_outcome, rule_read, rule_path}
 use Rattle.listing_law.specs.Listings.{positions, positions_for, listing}
 use Rattle.store_form.specs.Stores as stores
 use Rattle.store_form.specs.StoreTest.{is_store, store_refusal}

@@ -1,7 +1,7 @@
 // Paths: every call on paths under one name (path/mod.rs).
 #![tactic(auto)]
 
-pub use builder::{Appended, Builder, Built, Started};
+pub use builder::{Builder, Rejected};
 pub use construction::{
     append, append_slice, from_slices, new_empty, new_from_iter, new_singleton,
 };

@@ -1,35 +1,36 @@
--- Ends and ranges of paths as the code has them: kinds and counts, and lent buffers beside them. The questions on ranges are
--- defined in `willow`, for the values of every order.
+-- Ends and ranges of paths as they are lent: ends and ranges of counts, and buffers beside them. The questions on ranges are defined in
+-- `willow`, for the values of every order.
 use Rattle.std.specs.Prelude.{ℕ, List, [], ◌∷◌}
 use Rattle.willow.specs.Answers.{path_in}
 use Rattle.willow.specs.Paths.{Path}
-use Rattle.willow.specs.Ranges.{End, closed, endless, Range}
-use Rattle.packed.specs.Readable.{Readable}
+use Rattle.willow.specs.Ranges.{End, closed, endless, Range, end_of}
+use Rattle.packed.specs.LentPaths.{path_of}
+use Rattle.packed.specs.declared.lent.LentPath as tested
+use Rattle.range.specs.declared.Range as code
+use Rattle.range.specs.NumberRanges.{range_of}
+use Rattle.range.specs.StandingFor.{end_by, range_by}
+use Rattle.willow.specs.declared.RangeEnd.{RangeEnd}
 use Rattle.path_bounds.specs.LentPaths.{LentPath}
-use Rattle.path_bounds.specs.declared.PathEnd.{PathEnd}
-use Rattle.path_bounds.specs.declared.PathEnd.TheVariants.{Closed, Open}
-use Rattle.path_bounds.specs.declared.PathRange.{PathRange}
 
 -- An end beside a buffer, and a range beside the buffers of its start and its end.
-abbrev pub path_end_of : PathEnd → List ℕ → End Path
-path_end_of (Closed k) e = closed (path_in e k)
-path_end_of Open e = endless
+abbrev pub path_end_of : End ℕ → List ℕ → End Path
+path_end_of (closed k) e = closed (path_in e k)
+path_end_of endless e = endless
 
-abbrev pub path_range_of : PathRange → List ℕ → List ℕ → Range Path
+abbrev pub path_range_of : Range ℕ → List ℕ → List ℕ → Range Path
 path_range_of r s e = record { start = path_in s r.start; end = path_end_of r.end e }
 
 -- The paths that are lent with them: "a .. path passed beside kind 0 is not read".
-abbrev pub end_paths : PathEnd → List ℕ → List LentPath
-end_paths (Closed k) e = (e, k) ∷ []
-end_paths Open e = []
+abbrev pub end_paths : End ℕ → List ℕ → List LentPath
+end_paths (closed k) e = (e, k) ∷ []
+end_paths endless e = []
 
-abbrev pub range_paths : PathRange → List ℕ → List ℕ → List LentPath
+abbrev pub range_paths : Range ℕ → List ℕ → List ℕ → List LentPath
 range_paths r s e = (s, r.start) ∷ end_paths r.end e
 
--- What an inner function may take for granted of them.
-abbrev pub EndReadable : PathEnd → List ℕ → Type 0
-EndReadable (Closed k) e = Readable e k
-EndReadable Open e = Unit {0}
+-- What an end and a range of paths that were tested stand for.
+abbrev pub end_of_paths : RangeEnd tested.LentPath → End Path
+end_of_paths d = end_by path_of (end_of d)
 
-abbrev pub RangeReadable : PathRange → List ℕ → List ℕ → Type 0
-RangeReadable r s e = Readable s r.start × EndReadable r.end e
+abbrev pub range_of_paths : code.Range tested.LentPath → Range Path
+range_of_paths r = range_by path_of (range_of r)

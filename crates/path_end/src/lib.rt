@@ -1,80 +1,93 @@
 // Ends of ranges of paths (grouping/range.rs, `RangeEnd`): excluded paths, or open, which is above every path. An end's path is
-// lent beside it. Calls refuse 1, then 5; what stands beside an open end is not read.
-#![tactic(auto)]
+// lent beside it: an end is a plain value that a host keeps, and its buffer is lent anew with each call. Calls refuse 1, then 5; what
+// stands beside an open end is not read.
+#![tactic(auto, unfolding(path_bounds::specs::LentPaths::on_lent, path_bounds::specs::LentPaths::lent_paths_refusal, willow::specs::Answers::path_refusal), using(range::proofs::StandingForLaws::end_above_by, range::proofs::StandingForLaws::compare_ends_by, range::proofs::StandingForLaws::is_end_value_by, range::proofs::StandingForLaws::compare_end_value_by, range::proofs::StandingForLaws::compare_value_end_by))]
 
 ghost use Rattle.std.specs.Prelude.{[], ◌∷◌, ◌++◌, ◌≡◌};
-ghost use Rattle.willow.specs.Answers.{asked_outcome, compared_outcome, path_in};
+ghost use Rattle.willow.specs.Answers.{outcome, path_in};
 ghost use Rattle.willow.specs.Paths.{compare_paths};
-ghost use Rattle.willow.specs.Ranges.{compare_ends, end_above};
+ghost use Rattle.willow.specs.Ranges.{compare_ends, end_above, end_of};
 ghost use Rattle.willow.specs.Refusals.{value};
 ghost use Rattle.range_end.specs.EndValues.{compare_end_value, compare_value_end, is_end_value};
 ghost use Rattle.path_bounds.specs.LentPaths.{on_lent};
 ghost use Rattle.path_bounds.specs.LentRanges.{end_paths, path_end_of};
 
-use packed::inner as paths;
-use path_bounds::{PathEnd, inner};
-use path_orders::inner as orders;
-use range_end::inner::answer;
-use willow::{Asked, Compared, Limits, Order, Tested};
+use lent_path::lend;
+use path_bounds::lend_end;
+use std::cmp::Ordering;
+use willow::{Limits, RangeEnd, Refusal};
 
 // Whether an end is above a path.
-pub fn gt_val(limits: Limits, end: PathEnd, e: &[u8], path: &[u8], count: u64) -> Asked
-    ensures { asked_outcome result ≡ on_lent limits (end_paths end e.now ++ ((path.now, count) ∷ [])) (value (end_above compare_paths (path_end_of end e.now) (path_in path.now count))) }
+pub fn gt_val(
+    limits: Limits,
+    end: RangeEnd<u64>,
+    e: &[u8],
+    path: &[u8],
+    count: u64,
+) -> Result<bool, Refusal>
+    ensures { outcome result ≡ on_lent limits (end_paths (end_of end) e.now ++ ((path.now, count) ∷ [])) (value (end_above compare_paths (path_end_of (end_of end) e.now) (path_in path.now count))) }
 {
-    let t = inner::test_end_and_path(limits, end, e, path, count);
-    match t {
-        Tested::Refused(r) => Asked::Refused(r),
-        Tested::Fine => answer(orders::is_above(end, e, path, count as usize)),
-    }
+    let d = lend_end(limits, end, e)?;
+    let p = lend(limits, path, count)?;
+    Ok(range_end::gt_val(d, p))
 }
 
 // The order of two ends, open being greatest.
-pub fn compare_ends(limits: Limits, end: PathEnd, e: &[u8], end2: PathEnd, e2: &[u8]) -> Compared
-    ensures { compared_outcome result ≡ on_lent limits (end_paths end e.now ++ end_paths end2 e2.now) (value (compare_ends compare_paths (path_end_of end e.now) (path_end_of end2 e2.now))) }
+pub fn compare_ends(
+    limits: Limits,
+    end: RangeEnd<u64>,
+    e: &[u8],
+    end2: RangeEnd<u64>,
+    e2: &[u8],
+) -> Result<Ordering, Refusal>
+    ensures { outcome result ≡ on_lent limits (end_paths (end_of end) e.now ++ end_paths (end_of end2) e2.now) (value (compare_ends compare_paths (path_end_of (end_of end) e.now) (path_end_of (end_of end2) e2.now))) }
 {
-    let t = inner::test_ends(limits, end, e, end2, e2);
-    match t {
-        Tested::Refused(r) => Compared::Refused(r),
-        Tested::Fine => Compared::Is(orders::order_ends(end, e, end2, e2)),
-    }
+    let d = lend_end(limits, end, e)?;
+    let d2 = lend_end(limits, end2, e2)?;
+    Ok(range_end::compare_ends(d, d2))
 }
 
 // Whether an end is a path.
-pub fn end_equals(limits: Limits, end: PathEnd, e: &[u8], path: &[u8], count: u64) -> Asked
-    ensures { asked_outcome result ≡ on_lent limits (end_paths end e.now ++ ((path.now, count) ∷ [])) (value (is_end_value compare_paths (path_end_of end e.now) (path_in path.now count))) }
+pub fn end_equals(
+    limits: Limits,
+    end: RangeEnd<u64>,
+    e: &[u8],
+    path: &[u8],
+    count: u64,
+) -> Result<bool, Refusal>
+    ensures { outcome result ≡ on_lent limits (end_paths (end_of end) e.now ++ ((path.now, count) ∷ [])) (value (is_end_value compare_paths (path_end_of (end_of end) e.now) (path_in path.now count))) }
 {
-    let t = inner::test_end_and_path(limits, end, e, path, count);
-    match t {
-        Tested::Refused(r) => Asked::Refused(r),
-        Tested::Fine => match orders::order_end(end, e, path, count as usize) {
-            Order::Less => Asked::No,
-            Order::Equal => Asked::Yes,
-            Order::Greater => Asked::No,
-        },
-    }
+    let d = lend_end(limits, end, e)?;
+    let p = lend(limits, path, count)?;
+    Ok(range_end::end_equals(d, p))
 }
 
 // An end against a path.
-pub fn compare_end(limits: Limits, end: PathEnd, e: &[u8], path: &[u8], count: u64) -> Compared
-    ensures { compared_outcome result ≡ on_lent limits (end_paths end e.now ++ ((path.now, count) ∷ [])) (value (compare_end_value compare_paths (path_end_of end e.now) (path_in path.now count))) }
+pub fn compare_end(
+    limits: Limits,
+    end: RangeEnd<u64>,
+    e: &[u8],
+    path: &[u8],
+    count: u64,
+) -> Result<Ordering, Refusal>
+    ensures { outcome result ≡ on_lent limits (end_paths (end_of end) e.now ++ ((path.now, count) ∷ [])) (value (compare_end_value compare_paths (path_end_of (end_of end) e.now) (path_in path.now count))) }
 {
-    let t = inner::test_end_and_path(limits, end, e, path, count);
-    match t {
-        Tested::Refused(r) => Compared::Refused(r),
-        Tested::Fine => Compared::Is(orders::order_end(end, e, path, count as usize)),
-    }
+    let d = lend_end(limits, end, e)?;
+    let p = lend(limits, path, count)?;
+    Ok(range_end::compare_end(d, p))
 }
 
 // A path against an end.
-pub fn compare_value(limits: Limits, path: &[u8], count: u64, end: PathEnd, e: &[u8]) -> Compared
-    ensures { compared_outcome result ≡ on_lent limits (end_paths end e.now ++ ((path.now, count) ∷ [])) (value (compare_value_end compare_paths (path_in path.now count) (path_end_of end e.now))) }
+pub fn compare_value(
+    limits: Limits,
+    path: &[u8],
+    count: u64,
+    end: RangeEnd<u64>,
+    e: &[u8],
+) -> Result<Ordering, Refusal>
+    ensures { outcome result ≡ on_lent limits (end_paths (end_of end) e.now ++ ((path.now, count) ∷ [])) (value (compare_value_end compare_paths (path_in path.now count) (path_end_of (end_of end) e.now))) }
 {
-    let t = inner::test_end_and_path(limits, end, e, path, count);
-    match t {
-        Tested::Refused(r) => Compared::Refused(r),
-        Tested::Fine => match end {
-            PathEnd::Closed(k) => Compared::Is(paths::compare(path, count as usize, e, k as usize)),
-            PathEnd::Open => Compared::Is(Order::Less),
-        },
-    }
+    let d = lend_end(limits, end, e)?;
+    let p = lend(limits, path, count)?;
+    Ok(range_end::compare_value(p, d))
 }

@@ -1,1 +1,2 @@
-pub mod NumberRangeLaws
+pub mod MetLaws
+pub mod StandingForLaws

@@ -8,25 +8,24 @@ use Rattle.willow.specs.Paths.{Path, compare_paths}
 use Rattle.willow.specs.Ranges.{Range, intersection}
 use Rattle.willow.specs.Ranges3d.{Range3d, intersection3d, range3d_of}
 use Rattle.willow.specs.Refusals.{Outcome, refused, absent, value}
-use Rattle.range.specs.NumberRanges.{range_or}
-use Rattle.path_range_intersection.specs.declared.EndSide.{EndSide}
+use Rattle.willow.specs.Answers.{outcome_if_any}
 use Rattle.path_range_intersection.specs.declared.Side.{Side}
 use Rattle.path_range_intersection.specs.Sides.{sides_for, sides_met}
 use Rattle.path_range_intersection.proofs.SidesLaws.{sides_of_paths}
 use Rattle.range_3d_intersection.specs.Sides3d.{Standing3d, sides_for3d, sides_met3d, Sides3dTheorem}
 
 -- What was found of the paths, of the times and of the subspaces, one behind the other.
-abbrev pub standing : Outcome (Side × EndSide) → Outcome (Range ℕ) → Outcome (Range ℕ) → Outcome Standing3d
+abbrev standing : Outcome (Range Side) → Outcome (Range ℕ) → Outcome (Range ℕ) → Outcome Standing3d
 standing (refused r) t u = refused r
 standing absent t u = absent
 standing (value x) (refused r) u = refused r
 standing (value x) absent u = absent
 standing (value x) (value t) (refused r) = refused r
 standing (value x) (value t) absent = absent
-standing (value x) (value t) (value u) = value (record { subspaces = u; start = x.0; end = x.1; times = t })
+standing (value x) (value t) (value u) = value (record { subspaces = u; paths = x; times = t })
 
 standing_is : (r s : Range3d)
-    → standing (sides_met compare_paths r.paths s.paths) (range_or (intersection compare_numbers r.times s.times)) (range_or (intersection compare_numbers r.subspaces s.subspaces)) ≡ sides_met3d r s
+    → standing (sides_met compare_paths r.paths s.paths) (outcome_if_any (intersection compare_numbers r.times s.times)) (outcome_if_any (intersection compare_numbers r.subspaces s.subspaces)) ≡ sides_met3d r s
 unfolding sides_met3d intersection3d sides_met
 standing_is r s = go
     (intersection compare_paths r.paths s.paths)
@@ -34,7 +33,7 @@ standing_is r s = go
     (intersection compare_numbers r.subspaces s.subspaces)
   where
     go : (p : Option (Range Path)) (t u : Option (Range ℕ))
-        → standing (sides_for compare_paths r.paths s.paths p) (range_or t) (range_or u) ≡ sides_for3d r s (range3d_of u p t)
+        → standing (sides_for compare_paths r.paths s.paths p) (outcome_if_any t) (outcome_if_any u) ≡ sides_for3d r s (range3d_of u p t)
     go none t none = refl
     go none t (some u) = refl
     go (some p) none none = refl
@@ -42,16 +41,12 @@ standing_is r s = go
     go (some p) (some t) none = refl
     go (some p) (some t) (some u) = refl
 
-pub stands : (r s : Range3d) (o : Outcome (Side × EndSide)) (t u : Outcome (Range ℕ))
+stands : (r s : Range3d) (o : Outcome (Range Side)) (t u : Outcome (Range ℕ))
     → o ≡ sides_met compare_paths r.paths s.paths
-    → t ≡ range_or (intersection compare_numbers r.times s.times)
-    → u ≡ range_or (intersection compare_numbers r.subspaces s.subspaces)
+    → t ≡ outcome_if_any (intersection compare_numbers r.times s.times)
+    → u ≡ outcome_if_any (intersection compare_numbers r.subspaces s.subspaces)
     → standing o t u ≡ sides_met3d r s
 stands r s o t u e f g = rw (e, f, g) (standing_is r s)
-
--- The answer of a call that is the case y, with what it means.
-pub found : {A B : Type 0} (means : A → B) (x y : A) (o : B) → x ≡ y → means x ≡ o → means y ≡ o
-found means x y o h e = sym (ap means h) ∙ e
 
 -- WHAT IT MEANS. Where there is an intersection, there are those of the three ranges.
 record Parts (r s m : Range3d) : Type 0 where
@@ -86,8 +81,8 @@ sides3d_theorem = record {
   sides_met_lem = λ r s m e.
       let h = parts r s m e in
       let (a, d, is, start, end, second_start, second_end_lem) = sides_of_paths.sides_met_lem r.paths s.paths m.paths h.paths in (
-        record { subspaces = m.subspaces; start = a; end = d; times = m.times },
-        sym (stands r s (value (a, d)) (value m.times) (value m.subspaces) (sym is) (sym (ap range_or h.times)) (sym (ap range_or h.subspaces))),
+        record { subspaces = m.subspaces; paths = record { start = a; end = d }; times = m.times },
+        sym (stands r s (value (record { start = a; end = d })) (value m.times) (value m.subspaces) (sym is) (sym (ap outcome_if_any h.times)) (sym (ap outcome_if_any h.subspaces))),
         refl,
         refl,
         start,

@@ -5,47 +5,39 @@ use Rattle.willow.specs.Answers.{path_in}
 use Rattle.willow.specs.Limits.{max_word}
 use Rattle.willow.specs.Packed.{pack}
 use Rattle.willow.specs.Paths.{Path, compare_paths, path_length}
-use Rattle.willow.specs.Ranges.{End, closed, endless, Range}
+use Rattle.willow.specs.Ranges.{End, closed, endless, Range, end_of}
 use Rattle.willow.specs.Ranges3d.{Range3d, intersection3d}
 use Rattle.willow.specs.Refusals.{Outcome, refused, absent, value}
 use Rattle.range.specs.NumberRanges.{range_of}
-use Rattle.path_bounds.specs.declared.PathEnd.{PathEnd}
-use Rattle.path_bounds.specs.declared.PathEnd.TheVariants.{Closed, Open}
-use Rattle.path_range_intersection.specs.declared.EndSide.{EndSide}
 use Rattle.path_range_intersection.specs.declared.Side.{Side}
-use Rattle.path_range_intersection.specs.declared.Side.TheVariants as side
+use Rattle.path_range_intersection.specs.declared.Side.TheVariants.{Second}
 use Rattle.path_range_intersection.specs.Sides.{start_at, end_at, later_side, second_end, end_side}
 use Rattle.range_3d.specs.declared.Range3d as code
 use Rattle.range_3d.specs.LentRanges3d.{range3d_of}
-use Rattle.range_3d_intersection.specs.declared.Converted.{Converted}
-use Rattle.range_3d_intersection.specs.declared.Converted.TheVariants as converted
-use Rattle.range_3d_intersection.specs.declared.Range3dMet.{Range3dMet}
-use Rattle.range_3d_intersection.specs.declared.Range3dMet.TheVariants as met
 
 -- THE INTERSECTION: its ranges of numbers, and whose start and whose end its range of paths has.
 pub record Standing3d : Type 0 where
   pub subspaces : Range ℕ
-  pub start : Side
-  pub end : EndSide
+  pub paths : Range Side
   pub times : Range ℕ
 
 abbrev pub sides_for3d : Range3d → Range3d → Option Range3d → Outcome Standing3d
 sides_for3d r s none = absent
 sides_for3d r s (some m) = value (record {
   subspaces = m.subspaces;
-  start = later_side compare_paths r.paths.start s.paths.start;
-  end = end_side compare_paths r.paths.end s.paths.end;
+  paths = record {
+    start = later_side compare_paths r.paths.start s.paths.start;
+    end = end_side compare_paths r.paths.end s.paths.end;
+  };
   times = m.times;
 })
 
 unfoldable pub sides_met3d : Range3d → Range3d → Outcome Standing3d
 sides_met3d r s = sides_for3d r s (intersection3d r s)
 
--- What the cases of the code's answer mean.
-abbrev pub met_outcome : Range3dMet → Outcome Standing3d
-met_outcome (met.Refused r) = refused r
-met_outcome met.Nothing = absent
-met_outcome (met.Are m) = value (record { subspaces = range_of m.subspaces; start = m.start; end = m.end; times = range_of m.times })
+-- The code's answer, as that.
+abbrev pub standing3d_of : code.Range3d Side → Standing3d
+standing3d_of m = record { subspaces = range_of m.subspaces; paths = range_of m.paths; times = range_of m.times }
 
 -- What it means, of the intersection that `willow` defines: the sides stand for the start and the end of its range of paths; where
 -- both inputs have the same one the second's is named, and an open end as open.
@@ -54,10 +46,10 @@ pub record Sides3dTheorem : Type 0 where
   pub sides_met_lem : (r s m : Range3d) → intersection3d r s ≡ some m
       → (x : Standing3d) × (sides_met3d r s ≡ value x)
       × (x.subspaces ≡ m.subspaces) × (x.times ≡ m.times)
-      × (start_at x.start r.paths.start s.paths.start ≡ m.paths.start)
-      × (end_at x.end r.paths.end s.paths.end ≡ m.paths.end)
-      × (r.paths.start ≡ s.paths.start → x.start ≡ side.Second)
-      × (r.paths.end ≡ s.paths.end → x.end ≡ second_end s.paths.end)
+      × (start_at x.paths.start r.paths.start s.paths.start ≡ m.paths.start)
+      × (end_at x.paths.end r.paths.end s.paths.end ≡ m.paths.end)
+      × (r.paths.start ≡ s.paths.start → x.paths.start ≡ Second)
+      × (r.paths.end ≡ s.paths.end → x.paths.end ≡ second_end s.paths.end)
 
 -- AN AREA AS A 3D RANGE. A 3d range by the counts of its paths: the paths themselves stand in two buffers.
 pub record Counts3d : Type 0 where
@@ -79,22 +71,17 @@ converted_after (refused r) c = refused r
 converted_after absent c = value (c, 0)
 converted_after (value n) c = value (c, n)
 
--- What the cases of the code's answer mean.
-abbrev pub path_end_count : PathEnd → End ℕ
-path_end_count (Closed k) = closed k
-path_end_count Open = endless
-
-abbrev pub counts_of : code.Range3d → Counts3d
+-- The code's 3d range, by its counts; and the code's answer, as that.
+abbrev pub counts_of : code.Range3d ℕ → Counts3d
 counts_of m = record {
   subspaces = range_of m.subspaces;
   start = m.paths.start;
-  end = path_end_count m.paths.end;
+  end = end_of m.paths.end;
   times = range_of m.times;
 }
 
-abbrev pub converted_outcome : Converted → Outcome (Counts3d × ℕ)
-converted_outcome (converted.Refused r) = refused r
-converted_outcome (converted.Is m n) = value (counts_of m, n)
+abbrev pub converted : code.Range3d ℕ × ℕ → Counts3d × ℕ
+converted x = (counts_of x.0, x.1)
 
 -- What it means: where the counts are those of a 3d range whose start is the path lent in b and whose end, if it has one, is
 -- packed in o, the struct beside the two buffers is that 3d range. The premises are met by the full one and empty buffers.
@@ -103,5 +90,5 @@ HoldsEnd (closed p) o = (o ≡ pack p) × (length p ≤ max_word) × (path_lengt
 HoldsEnd endless o = Unit {0}
 
 pub record ConversionTheorem : Type 0 where
-  pub reads_back : (r : Range3d) (m : code.Range3d) (b o : List ℕ) → counts_of m ≡ counts_at r
+  pub reads_back : (r : Range3d) (m : code.Range3d ℕ) (b o : List ℕ) → counts_of m ≡ counts_at r
       → path_in b (length r.paths.start) ≡ r.paths.start → HoldsEnd r.paths.end o → range3d_of m b o ≡ r

@@ -1,1 +1,1 @@
-pub mod NumberTests
+pub mod EndLaws

@@ -1,27 +1,26 @@
-// Ends of ranges of numbers (grouping/range.rs, `RangeEnd`): excluded values, or open, which is above every value. Nothing is
-// refused today.
+// Ends of ranges (grouping/range.rs, `RangeEnd`), of the values of any order: excluded values, or open, which is above every value.
+// Nothing is refused. Functions and not methods: methods stand in the crate of their type, and `willow` has no code.
 #![tactic(auto)]
 
-pub mod inner;
-
 ghost use Rattle.std.specs.Prelude.{◌≡◌};
-ghost use Rattle.willow.specs.Answers.{asked_outcome, compared_outcome};
-ghost use Rattle.willow.specs.Orders.{compare_numbers};
 ghost use Rattle.willow.specs.Ranges.{compare_ends, end_above, end_number, end_of};
-ghost use Rattle.willow.specs.Refusals.{value};
 ghost use Rattle.range_end.specs.EndValues.{compare_end_value, compare_value_end, is_end_value};
 
-use willow::{Asked, Compared, Order, RangeEnd};
+use std::cmp::Ordering;
+use willow::RangeEnd;
 
 // Whether an end is above a value.
-pub fn gt_val(end: RangeEnd, val: u64) -> Asked
-    ensures { asked_outcome result ≡ value (end_above compare_numbers (end_of end) val) }
+pub fn gt_val<T: Ord + Copy>(end: RangeEnd<T>, val: T) -> bool
+    ensures { result ≡ end_above T.cmp (end_of end) val }
 {
-    inner::answer(inner::is_above(end, val))
+    match end {
+        RangeEnd::Closed(e) => e > val,
+        RangeEnd::Open => true,
+    }
 }
 
-// An end as a number: the greatest where it is open.
-pub fn end_number(end: RangeEnd) -> u64
+// An end as a number, as the Rust makes a `u64` of one: the greatest where it is open, so that it stands above every number but that.
+pub fn end_number(end: RangeEnd<u64>) -> u64
     ensures { result ≡ end_number (end_of end) }
 {
     match end {
@@ -31,38 +30,38 @@ pub fn end_number(end: RangeEnd) -> u64
 }
 
 // The order of two ends, open being greatest.
-pub fn compare_ends(a: RangeEnd, b: RangeEnd) -> Compared
-    ensures { compared_outcome result ≡ value (compare_ends compare_numbers (end_of a) (end_of b)) }
+pub fn compare_ends<T: Ord + Copy>(a: RangeEnd<T>, b: RangeEnd<T>) -> Ordering
+    ensures { result ≡ compare_ends T.cmp (end_of a) (end_of b) }
 {
-    Compared::Is(inner::order_ends(a, b))
+    a.cmp(&b)
 }
 
 // Whether an end is a value.
-pub fn end_equals(end: RangeEnd, val: u64) -> Asked
-    ensures { asked_outcome result ≡ value (is_end_value compare_numbers (end_of end) val) }
+pub fn end_equals<T: Ord + Copy>(end: RangeEnd<T>, val: T) -> bool
+    ensures { result ≡ is_end_value T.cmp (end_of end) val }
 {
     match end {
-        RangeEnd::Closed(e) => inner::answer(e == val),
-        RangeEnd::Open => Asked::No,
+        RangeEnd::Closed(e) => e == val,
+        RangeEnd::Open => false,
     }
 }
 
 // An end against a value.
-pub fn compare_end(end: RangeEnd, val: u64) -> Compared
-    ensures { compared_outcome result ≡ value (compare_end_value compare_numbers (end_of end) val) }
+pub fn compare_end<T: Ord + Copy>(end: RangeEnd<T>, val: T) -> Ordering
+    ensures { result ≡ compare_end_value T.cmp (end_of end) val }
 {
     match end {
-        RangeEnd::Closed(e) => Compared::Is(inner::compare_numbers(e, val)),
-        RangeEnd::Open => Compared::Is(Order::Greater),
+        RangeEnd::Closed(e) => e.cmp(&val),
+        RangeEnd::Open => Ordering::Greater,
     }
 }
 
 // A value against an end.
-pub fn compare_value(val: u64, end: RangeEnd) -> Compared
-    ensures { compared_outcome result ≡ value (compare_value_end compare_numbers val (end_of end)) }
+pub fn compare_value<T: Ord + Copy>(val: T, end: RangeEnd<T>) -> Ordering
+    ensures { result ≡ compare_value_end T.cmp val (end_of end) }
 {
     match end {
-        RangeEnd::Closed(e) => Compared::Is(inner::compare_numbers(val, e)),
-        RangeEnd::Open => Compared::Is(Order::Less),
+        RangeEnd::Closed(e) => val.cmp(&e),
+        RangeEnd::Open => Ordering::Less,
     }
 }

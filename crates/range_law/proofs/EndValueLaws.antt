@@ -5,8 +5,8 @@ use mathlib.Core.Path.{◌≡◌, refl, sym, ap}
 use mathlib.Core.Logic.{◌↔◌}
 use mathlib.Core.Bool.{true, false≢true}
 use native.Mathlib.Omega.{arith}
-use Rattle.willow.specs.declared.Order.{Order}
-use Rattle.willow.specs.declared.Order.TheVariants.{Less, Equal, Greater}
+use Rattle.std.specs.declared.cmp.Ordering.{Ordering}
+use Rattle.std.specs.declared.cmp.Ordering.TheVariants.{Less, Equal, Greater}
 use Rattle.willow.specs.Orders.{is_equal, is_greater, Total, Decides, compare_numbers}
 use Rattle.willow.specs.Paths.{PathBelow, compare_paths}
 use Rattle.willow.specs.Ranges.{End, closed, endless, BeforeEnd, end_above}
@@ -26,17 +26,17 @@ open≢closed {A} x e = let n : ◌≡◌ {A = ℕ} 0 1 = ap is_closed e in omeg
 closed_same : {A : Type 0} (d x : A) → closed d ≡ closed x → d ≡ x
 closed_same d x e = cc
 
-is_equal_lem : (o : Order) → (is_equal o ≡ true) ↔ (o ≡ Equal)
+is_equal_lem : (o : Ordering) → (is_equal o ≡ true) ↔ (o ≡ Equal)
 is_equal_lem Less = (λ h. absurd (false≢true h), λ h. absurd (less≢equal h))
 is_equal_lem Equal = (λ h. refl, λ h. refl)
 is_equal_lem Greater = (λ h. absurd (false≢true h), λ h. absurd (equal≢greater (sym h)))
 
-greater_means : {P : Type 0} (o : Order) → (o ≡ Greater) ↔ P → (is_greater o ≡ true) ↔ P
+greater_means : {P : Type 0} (o : Ordering) → (o ≡ Greater) ↔ P → (is_greater o ≡ true) ↔ P
 greater_means Less m = (λ h. absurd (false≢true h), λ h. absurd (less≢greater (m.1 h)))
 greater_means Equal m = (λ h. absurd (false≢true h), λ h. absurd (equal≢greater (m.1 h)))
 greater_means Greater m = (λ h. m.0 refl, λ h. refl)
 
-module _ {A : Type 0} (compare : A → A → Order) (Below : A → A → Type 0) (t : Total compare) (d : Decides compare Below) where
+module _ {A : Type 0} (compare : A → A → Ordering) (Below : A → A → Type 0) (t : Total compare) (d : Decides compare Below) where
   value_before : (x : A) (e : End A) → (compare_value_end compare x e ≡ Less) ↔ BeforeEnd Below x e
   value_before x (closed e) = d.less x e
   value_before x endless = (λ h. tt, λ h. refl)

@@ -1,3 +1,2 @@
 pub mod EndValueLaws
 pub mod RangePartLaws
-pub mod PathRangePartLaws

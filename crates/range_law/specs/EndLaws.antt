@@ -1,7 +1,7 @@
 -- WHAT THE ANSWERS OF AN END BESIDE A VALUE MEAN (of crate range_end, and of willow `end_above`).
 use Rattle.std.specs.Prelude.{◌<◌, ◌≡◌, ◌↔◌, true}
-use Rattle.willow.specs.declared.Order.{Order}
-use Rattle.willow.specs.declared.Order.TheVariants.{Less, Equal, Greater}
+use Rattle.std.specs.declared.cmp.Ordering.{Ordering}
+use Rattle.std.specs.declared.cmp.Ordering.TheVariants.{Less, Equal, Greater}
 use Rattle.willow.specs.Orders.{compare_numbers}
 use Rattle.willow.specs.Paths.{PathBelow, compare_paths}
 use Rattle.willow.specs.Ranges.{End, closed, endless, BeforeEnd, end_above}
@@ -13,7 +13,7 @@ PastEnd Below x (closed e) = Below e x
 PastEnd Below x endless = ⊥
 
 -- Each answer exactly if it is so, for every end and every value of a total order that the comparison decides.
-pub record EndLaws {A : Type 0} (compare : A → A → Order) (Below : A → A → Type 0) : Type 0 where
+pub record EndLaws {A : Type 0} (compare : A → A → Ordering) (Below : A → A → Type 0) : Type 0 where
   pub value_before : (x : A) (e : End A) → (compare_value_end compare x e ≡ Less) ↔ BeforeEnd Below x e
   pub value_there : (x : A) (e : End A) → (compare_value_end compare x e ≡ Equal) ↔ (e ≡ closed x)
   pub value_past : (x : A) (e : End A) → (compare_value_end compare x e ≡ Greater) ↔ PastEnd Below x e

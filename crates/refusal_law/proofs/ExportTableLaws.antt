@@ -8,7 +8,7 @@ use mathlib.Core.Option.{Option, none, some}
 use lib.ListN.{length}
 use Rattle.willow.specs.declared.Limits.{Limits}
 use Rattle.willow.specs.declared.Refusal.{Refusal}
-use Rattle.willow.specs.Answers.{or_else, unless, limits_refusal, lent_refusal, path_in, path_refusal, paths_refusal, on_path, on_paths, written_length, packed_outcome}
+use Rattle.willow.specs.Answers.{or_else, unless, limits_refusal, lent_refusal, path_in, path_refusal, paths_refusal, on_path, on_paths, outcome_if_any, written_length, packed_outcome}
 use Rattle.willow.specs.LeastPaths.{next_greater}
 use Rattle.willow.specs.Limits.{Accepted}
 use Rattle.willow.specs.Lists.{In, All}
@@ -21,11 +21,9 @@ use Rattle.tables.specs.TableRows.{LentPath, NoneLent, bad_limits, bad_kind, bad
 use Rattle.tables.specs.Tables.{refusal_of}
 use Rattle.willow.proofs.AnswerLaws.{limits_fine, lent_passed}
 use Rattle.tables.proofs.Rows.{First, passes, no_row, same, same_condition, behind, answered}
-use Rattle.range.specs.NumberRanges.{range_or}
 use Rattle.kinds.specs.Kinds.{of_kinds, on_kinds}
 use Rattle.area_kinds.specs.AreaKinds.{Parts}
 use Rattle.least.specs.Places.{next_greater_of}
-use Rattle.path_bounds.specs.declared.PathRange.{PathRange}
 use Rattle.path_bounds.specs.LentPaths.{any_bad_path, lent_paths_refusal, on_lent, HoldsBytes}
 use Rattle.path_bounds.specs.LentRanges.{end_paths, range_paths}
 use Rattle.range_3d_intersection.specs.Sides3d.{Counts3d, converted_after}
@@ -34,7 +32,7 @@ use Rattle.refusal_law.specs.Paths.{SaidOfOne}
 use Rattle.tables.proofs.RefusalLaws.{packed_refusal, held, said_row}
 use Rattle.refusal_law.proofs.PathTableLaws.{said_one, one_packed_behind, path_or_not}
 use Rattle.refusal_law.proofs.GroupingTableLaws.{sides_refuse_nothing, standing_refuses_nothing, interest_refuses_nothing, sides_3d_refuse_nothing, converted_refusal, end_holds, range_holds, both_hold}
-use Rattle.refusal_law.proofs.KindTableLaws.{end_reading, range_reading, path_end_reading, path_range_reading, area_reading, range_3d_reading, both_reading, kinds_row, limits_kinds_rows}
+use Rattle.refusal_law.proofs.KindTableLaws.{end_reading, range_reading, area_reading, range_3d_reading, both_reading, kinds_row, limits_kinds_rows}
 use Rattle.tables.proofs.LentLaws.{lent_row, lent_more, unless_refused, unless_chain}
 
 -- 5 ALONE, under limits that were accepted.
@@ -174,12 +172,12 @@ module _ (L : Limits) (base out : List ℕ) (h : Bytes base) where
       (converted_accepted b.count (c b) a))
 
 -- The buffers of two ranges.
-two_ranges_hold : (r q : PathRange) (s e s2 e2 : List ℕ) → Bytes s → Bytes e → Bytes s2 → Bytes e2
+two_ranges_hold : (r q : (Range ℕ)) (s e s2 e2 : List ℕ) → Bytes s → Bytes e → Bytes s2 → Bytes e2
     → All HoldsBytes (range_paths r s e ++ range_paths q s2 e2)
 two_ranges_hold r q s e s2 e2 f g h i = both_hold (range_paths r s e) (range_paths q s2 e2) (range_holds r s e f g) (range_holds q s2 e2 h i)
 
 -- A range of numbers that there may not be.
-range_or_not : (o : Option (Range ℕ)) → refusal_of (range_or o) ≡ none
+range_or_not : (o : Option (Range ℕ)) → refusal_of (outcome_if_any o) ≡ none
 range_or_not none = refl
 range_or_not (some r) = refl
 
@@ -202,22 +200,22 @@ export_tables = record {
   range_compare = λ start kind end start2 kind2 end2.
       answered refl (asked_of_kinds _ _ _ (both_reading (range_reading start kind end) (range_reading start2 kind2 end2)) _ (λ b. refl));
   path_range_end_above = λ L kind end e path count g h.
-      answered refl (asked_on_kinds _ _ _ (path_end_reading kind end) L _ _ (λ x. refl)
+      answered refl (asked_on_kinds _ _ _ (end_reading kind end) L _ _ (λ x. refl)
       (λ x. both_hold (end_paths x e) ((path, count) ∷ []) (end_holds x e g) (h, tt)));
   path_range_compare_ends = λ L kind end e kind2 end2 e2 g h.
-      answered refl (asked_on_kinds _ _ _ (both_reading (path_end_reading kind end) (path_end_reading kind2 end2)) L _ _ (λ x. refl)
+      answered refl (asked_on_kinds _ _ _ (both_reading (end_reading kind end) (end_reading kind2 end2)) L _ _ (λ x. refl)
       (λ x. both_hold (end_paths x.0 e) (end_paths x.1 e2) (end_holds x.0 e g) (end_holds x.1 e2 h)));
   path_range_includes = λ L start s kind end e path count f g h.
-      answered refl (asked_on_kinds _ _ _ (path_range_reading start kind end) L _ _ (λ x. refl)
+      answered refl (asked_on_kinds _ _ _ (range_reading start kind end) L _ _ (λ x. refl)
       (λ x. both_hold (range_paths x s e) ((path, count) ∷ []) (range_holds x s e f g) (h, tt)));
   path_range_includes_range = λ L start kind end s e start2 kind2 end2 s2 e2 f g h i.
-      answered refl (asked_on_kinds _ _ _ (both_reading (path_range_reading start kind end) (path_range_reading start2 kind2 end2)) L _ _
+      answered refl (asked_on_kinds _ _ _ (both_reading (range_reading start kind end) (range_reading start2 kind2 end2)) L _ _
       (λ x. refl) (λ x. two_ranges_hold x.0 x.1 s e s2 e2 f g h i));
   path_range_compare = λ L start kind end s e start2 kind2 end2 s2 e2 f g h i.
-      answered refl (asked_on_kinds _ _ _ (both_reading (path_range_reading start kind end) (path_range_reading start2 kind2 end2)) L _ _
+      answered refl (asked_on_kinds _ _ _ (both_reading (range_reading start kind end) (range_reading start2 kind2 end2)) L _ _
       (λ x. refl) (λ x. two_ranges_hold x.0 x.1 s e s2 e2 f g h i));
   path_range_intersection = λ L start kind end s e start2 kind2 end2 s2 e2 f g h i.
-      answered refl (asked_on_kinds _ _ _ (both_reading (path_range_reading start kind end) (path_range_reading start2 kind2 end2)) L _ _
+      answered refl (asked_on_kinds _ _ _ (both_reading (range_reading start kind end) (range_reading start2 kind2 end2)) L _ _
       (λ x. sides_refuse_nothing _ _ _) (λ x. two_ranges_hold x.0 x.1 s e s2 e2 f g h i));
   area_includes_triplet = λ L kind id count start end_kind end base subspace path pathCount timestamp g h.
       answered refl (asked_on_kinds_two _ _ _ (area_reading kind id count start end_kind end) L base path (λ a. a.count) (λ a. pathCount) _

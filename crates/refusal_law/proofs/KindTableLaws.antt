@@ -24,9 +24,8 @@ use Rattle.willow.proofs.AnswerLaws.{limits_passed}
 use Rattle.tables.proofs.Rows.{First, gives, passes, no_row, behind, answered}
 use Rattle.kinds.specs.Kinds.{of_kinds, on_kinds, both, range_from}
 use Rattle.area_kinds.specs.AreaKinds.{area_from}
-use Rattle.path_kinds.specs.PathKinds.{path_end_from, path_range_from}
 use Rattle.range_3d_kinds.specs.Range3dKinds.{parts3d_from}
-use Rattle.kind_law.specs.KindMeaning.{MeansEnd, MeansSubspace, MeansPathEnd, MeansRange, MeansPathRange}
+use Rattle.kind_law.specs.KindMeaning.{MeansEnd, MeansSubspace, MeansRange}
 use Rattle.kind_law.proofs.KindMeaningLaws.{kind_meaning}
 use Rattle.refusal_law.specs.Exports.{MeansArea, Means3d, Both, Reading}
 use Rattle.refusal_law.specs.Kinds.{KindTables}
@@ -78,20 +77,10 @@ subspace_reading kind n =
     reading (subspace_from kind n) (MeansSubspace kind n) (kind ∷ []) (kind_meaning.subspace_means kind n)
     (of_one (subspace_from kind n ≡ none) kind (kind_meaning.subspace_bad kind n))
 
-pub path_end_reading : (kind count : ℕ) → Reading (path_end_from kind count) (MeansPathEnd kind count) (kind ∷ [])
-path_end_reading kind count =
-    reading (path_end_from kind count) (MeansPathEnd kind count) (kind ∷ []) (kind_meaning.path_end_means kind count)
-    (of_one (path_end_from kind count ≡ none) kind (kind_meaning.path_end_bad kind count))
-
 pub range_reading : (start kind n : ℕ) → Reading (range_from start kind n) (MeansRange start kind n) (kind ∷ [])
 range_reading start kind n =
     reading (range_from start kind n) (MeansRange start kind n) (kind ∷ []) (kind_meaning.range_means start kind n)
     (of_one (range_from start kind n ≡ none) kind (kind_meaning.range_bad start kind n))
-
-pub path_range_reading : (start kind count : ℕ) → Reading (path_range_from start kind count) (MeansPathRange start kind count) (kind ∷ [])
-path_range_reading start kind count =
-    reading (path_range_from start kind count) (MeansPathRange start kind count) (kind ∷ []) (kind_meaning.path_range_means start kind count)
-    (of_one (path_range_from start kind count ≡ none) kind (kind_meaning.path_range_bad start kind count))
 
 pub area_reading : (kind id count start end_kind end : ℕ)
     → Reading (area_from kind id count start end_kind end) (MeansArea kind id count start end_kind end) (kind ∷ end_kind ∷ [])
@@ -184,10 +173,10 @@ kind_tables = record {
   read_area = λ L kind id count start end_kind end. answered refl (on_kinds_lem L _ (area_reading kind id count start end_kind end));
   read_areas = λ L kind id count start end_kind end kind2 id2 count2 start2 endKind2 end2.
       answered refl (on_kinds_lem L _ (both_reading (area_reading kind id count start end_kind end) (area_reading kind2 id2 count2 start2 endKind2 end2)));
-  read_path_end = λ L kind count. answered refl (on_kinds_lem L _ (path_end_reading kind count));
-  read_path_range = λ L start kind end. answered refl (on_kinds_lem L _ (path_range_reading start kind end));
+  read_path_end = λ L kind count. answered refl (on_kinds_lem L _ (end_reading kind count));
+  read_path_range = λ L start kind end. answered refl (on_kinds_lem L _ (range_reading start kind end));
   read_path_ranges = λ L start kind end start2 kind2 end2.
-      answered refl (on_kinds_lem L _ (both_reading (path_range_reading start kind end) (path_range_reading start2 kind2 end2)));
+      answered refl (on_kinds_lem L _ (both_reading (range_reading start kind end) (range_reading start2 kind2 end2)));
   read_range_3d = λ L s sk e c pk d t tk u. answered refl (on_kinds_lem L _ (range_3d_reading s sk e c pk d t tk u));
   read_ranges_3d = λ L s sk e c pk d t tk u s2 sk2 e2 c2 pk2 d2 t2 tk2 u2.
       answered refl (on_kinds_lem L _ (both_reading (range_3d_reading s sk e c pk d t tk u) (range_3d_reading s2 sk2 e2 c2 pk2 d2 t2 tk2 u2)));

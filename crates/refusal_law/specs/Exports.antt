@@ -9,7 +9,7 @@
 use Rattle.std.specs.Prelude.{ℕ, ◌≡◌, ◌↔◌, List, [], ◌∷◌, ◌++◌}
 use Rattle.std.proofs.Math.Option.{Option, none, some}
 use Rattle.willow.specs.declared.Limits.{Limits}
-use Rattle.willow.specs.Answers.{path_in, on_path, on_paths, written_length, packed_outcome}
+use Rattle.willow.specs.Answers.{path_in, on_path, on_paths, outcome_if_any, written_length, packed_outcome}
 use Rattle.willow.specs.Areas.{almost_includes_area, area_prunable, compare_areas, includes_area, includes_triplet}
 use Rattle.willow.specs.AreasOfInterest.{compare_interest}
 use Rattle.willow.specs.Kinds.{GoodKind}
@@ -17,13 +17,13 @@ use Rattle.willow.specs.Lists.{In, All}
 use Rattle.willow.specs.Numbers.{Bytes}
 use Rattle.willow.specs.Orders.{compare_numbers}
 use Rattle.willow.specs.Paths.{Path, compare_paths}
-use Rattle.willow.specs.Ranges.{compare_ends, compare_ranges, end_above, includes, includes_range, intersection}
+use Rattle.willow.specs.Ranges.{compare_ends, compare_ranges, end_above, end_from, includes, includes_range, intersection}
 use Rattle.willow.specs.Ranges3d.{compare_ranges3d, includes_range3d, includes_triplet3d, range3d_from, range3d_prunable}
 use Rattle.willow.specs.Refusals.{Outcome, value}
 use Rattle.tables.specs.TableRows.{LentPath, bad_limits, bad_kind, bad_path, read_with, out_too_small}
 use Rattle.tables.specs.Tables.{Row, AnsweredBy, refusal_of}
-use Rattle.range.specs.NumberRanges.{is_open, range_or}
-use Rattle.kinds.specs.Kinds.{of_kinds, on_kinds, both}
+use Rattle.range.specs.NumberRanges.{is_open}
+use Rattle.kinds.specs.Kinds.{of_kinds, on_kinds, both, range_from}
 use Rattle.area.specs.LentAreas.{triplet_at}
 use Rattle.area_kinds.specs.AreaKinds.{Parts, area_from, area_with}
 use Rattle.area_intersection.specs.Standing.{standing}
@@ -31,11 +31,10 @@ use Rattle.area_of_interest.specs.Interests.{standing_interest}
 use Rattle.least.specs.Places.{next_greater_of}
 use Rattle.path_bounds.specs.LentPaths.{on_lent, HoldsBytes}
 use Rattle.path_bounds.specs.LentRanges.{end_paths, path_end_of, path_range_of, range_paths}
-use Rattle.path_kinds.specs.PathKinds.{path_end_from, path_range_from}
 use Rattle.path_range_intersection.specs.Sides.{sides_met}
 use Rattle.range_3d_intersection.specs.Sides3d.{converted_after, counts_at, sides_met3d}
 use Rattle.range_3d_kinds.specs.Range3dKinds.{Parts3d, parts3d_from, range3d_with}
-use Rattle.kind_law.specs.KindMeaning.{MeansSubspace, MeansPathEnd, MeansRange, MeansPathRange}
+use Rattle.kind_law.specs.KindMeaning.{MeansSubspace, MeansEnd, MeansRange}
 use Rattle.host_range.specs.RangeExports.{on_end, on_ends, on_range, on_ranges}
 use Rattle.host_area_of_interest.specs.InterestExports.{interest_with}
 use Rattle.refusal_law.specs.Paths.{SaidOfOne}
@@ -45,7 +44,7 @@ abbrev pub MeansArea : (kind id count start end_kind end : ℕ) → Parts → Ty
 MeansArea kind id count start end_kind end a = MeansSubspace kind id a.subspace × (a.count ≡ count) × MeansRange start end_kind end a.times
 
 abbrev pub Means3d : (s sk e c pk d t tk u : ℕ) → Parts3d → Type 0
-Means3d s sk e c pk d t tk u r = MeansRange s sk e r.subspaces × MeansPathRange c pk d r.paths × MeansRange t tk u r.times
+Means3d s sk e c pk d t tk u r = MeansRange s sk e r.subspaces × MeansRange c pk d r.paths × MeansRange t tk u r.times
 
 abbrev pub Both : {A B : Type 0} → (A → Type 0) → (B → Type 0) → A × B → Type 0
 Both M N v = M v.0 × N v.1
@@ -64,7 +63,7 @@ abbrev pub path_ranges_rows : Limits → (start kind end : ℕ) (s e : List ℕ)
 path_ranges_rows L start kind end s e start2 kind2 end2 s2 e2 =
     kind_rows L
     (kind ∷ kind2 ∷ [])
-    (Both (MeansPathRange start kind end) (MeansPathRange start2 kind2 end2))
+    (Both (MeansRange start kind end) (MeansRange start2 kind2 end2))
     (λ x. range_paths x.0 s e ++ range_paths x.1 s2 e2)
 
 -- of an area and a path, and of two areas,
@@ -129,40 +128,40 @@ pub record ExportTables : Type 1 where
       (refusal_of (on_ranges start kind end start2 kind2 end2 (λ s t. value (includes_range compare_numbers s t))))
   pub range_intersection : (start kind end start2 kind2 end2 : ℕ)
       → AnsweredBy (bad_kind (kind ∷ kind2 ∷ []) ∷ [])
-      (refusal_of (on_ranges start kind end start2 kind2 end2 (λ s t. range_or (intersection compare_numbers s t))))
+      (refusal_of (on_ranges start kind end start2 kind2 end2 (λ s t. outcome_if_any (intersection compare_numbers s t))))
   pub range_compare : (start kind end start2 kind2 end2 : ℕ)
       → AnsweredBy (bad_kind (kind ∷ kind2 ∷ []) ∷ [])
       (refusal_of (on_ranges start kind end start2 kind2 end2 (λ s t. value (compare_ranges compare_numbers s t))))
   -- host_path_range and host_path_range_intersection
   pub path_range_end_above : (L : Limits) (kind end : ℕ) (e path : List ℕ) (count : ℕ) → Bytes e → Bytes path
-      → AnsweredBy (kind_rows L (kind ∷ []) (MeansPathEnd kind end) (λ x. end_paths x e ++ ((path, count) ∷ [])))
-      (refusal_of (on_kinds L (path_end_from kind end)
+      → AnsweredBy (kind_rows L (kind ∷ []) (MeansEnd kind end) (λ x. end_paths x e ++ ((path, count) ∷ [])))
+      (refusal_of (on_kinds L (end_from kind end)
       (λ x. on_lent L (end_paths x e ++ ((path, count) ∷ [])) (value (end_above compare_paths (path_end_of x e) (path_in path count))))))
   pub path_range_compare_ends : (L : Limits) (kind end : ℕ) (e : List ℕ) (kind2 end2 : ℕ) (e2 : List ℕ) → Bytes e → Bytes e2
       → AnsweredBy
-      (kind_rows L (kind ∷ kind2 ∷ []) (Both (MeansPathEnd kind end) (MeansPathEnd kind2 end2)) (λ x. end_paths x.0 e ++ end_paths x.1 e2))
-      (refusal_of (on_kinds L (both (path_end_from kind end) (path_end_from kind2 end2))
+      (kind_rows L (kind ∷ kind2 ∷ []) (Both (MeansEnd kind end) (MeansEnd kind2 end2)) (λ x. end_paths x.0 e ++ end_paths x.1 e2))
+      (refusal_of (on_kinds L (both (end_from kind end) (end_from kind2 end2))
       (λ x. on_lent L (end_paths x.0 e ++ end_paths x.1 e2) (value (compare_ends compare_paths (path_end_of x.0 e) (path_end_of x.1 e2))))))
   pub path_range_includes : (L : Limits) (start : ℕ) (s : List ℕ) (kind end : ℕ) (e path : List ℕ) (count : ℕ) → Bytes s → Bytes e → Bytes path
-      → AnsweredBy (kind_rows L (kind ∷ []) (MeansPathRange start kind end) (λ x. range_paths x s e ++ ((path, count) ∷ [])))
-      (refusal_of (on_kinds L (path_range_from start kind end)
+      → AnsweredBy (kind_rows L (kind ∷ []) (MeansRange start kind end) (λ x. range_paths x s e ++ ((path, count) ∷ [])))
+      (refusal_of (on_kinds L (range_from start kind end)
       (λ x. on_lent L (range_paths x s e ++ ((path, count) ∷ [])) (value (includes compare_paths (path_range_of x s e) (path_in path count))))))
   pub path_range_includes_range : (L : Limits) (start kind end : ℕ) (s e : List ℕ) (start2 kind2 end2 : ℕ) (s2 e2 : List ℕ)
       → Bytes s → Bytes e → Bytes s2 → Bytes e2
       → AnsweredBy (path_ranges_rows L start kind end s e start2 kind2 end2 s2 e2)
-      (refusal_of (on_kinds L (both (path_range_from start kind end) (path_range_from start2 kind2 end2))
+      (refusal_of (on_kinds L (both (range_from start kind end) (range_from start2 kind2 end2))
       (λ x. on_lent L (range_paths x.0 s e ++ range_paths x.1 s2 e2)
       (value (includes_range compare_paths (path_range_of x.0 s e) (path_range_of x.1 s2 e2))))))
   pub path_range_compare : (L : Limits) (start kind end : ℕ) (s e : List ℕ) (start2 kind2 end2 : ℕ) (s2 e2 : List ℕ)
       → Bytes s → Bytes e → Bytes s2 → Bytes e2
       → AnsweredBy (path_ranges_rows L start kind end s e start2 kind2 end2 s2 e2)
-      (refusal_of (on_kinds L (both (path_range_from start kind end) (path_range_from start2 kind2 end2))
+      (refusal_of (on_kinds L (both (range_from start kind end) (range_from start2 kind2 end2))
       (λ x. on_lent L (range_paths x.0 s e ++ range_paths x.1 s2 e2)
       (value (compare_ranges compare_paths (path_range_of x.0 s e) (path_range_of x.1 s2 e2))))))
   pub path_range_intersection : (L : Limits) (start kind end : ℕ) (s e : List ℕ) (start2 kind2 end2 : ℕ) (s2 e2 : List ℕ)
       → Bytes s → Bytes e → Bytes s2 → Bytes e2
       → AnsweredBy (path_ranges_rows L start kind end s e start2 kind2 end2 s2 e2)
-      (refusal_of (on_kinds L (both (path_range_from start kind end) (path_range_from start2 kind2 end2))
+      (refusal_of (on_kinds L (both (range_from start kind end) (range_from start2 kind2 end2))
       (λ x. on_lent L (range_paths x.0 s e ++ range_paths x.1 s2 e2)
       (sides_met compare_paths (path_range_of x.0 s e) (path_range_of x.1 s2 e2)))))
   -- host_area and host_area_intersection

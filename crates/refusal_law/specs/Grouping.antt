@@ -4,6 +4,7 @@
 --
 -- The exports of `entry_questions`, and `wotskrale_path_range_new_closed`, have the right side of their call inside of `given`, of an entry
 -- with the head of the numbers that are passed; those that take kinds stand in specs/Exports.antt. What takes no path refuses nothing.
+use Rattle.range.specs.NumberRanges.{range_of}
 use Rattle.std.specs.Prelude.{ℕ, ◌≡◌, List, [], ◌∷◌, ◌++◌}
 use Rattle.std.proofs.Math.Option.{none}
 use Rattle.willow.specs.declared.Limits.{Limits}
@@ -14,14 +15,12 @@ use Rattle.willow.specs.Entries.{compare_entries, compare_places, prunes, same_e
 use Rattle.willow.specs.Lists.{All, is_some}
 use Rattle.willow.specs.Numbers.{Bytes}
 use Rattle.willow.specs.Paths.{compare_paths}
-use Rattle.willow.specs.Ranges.{compare_ends, compare_ranges, end_above, includes, includes_range, new_closed}
+use Rattle.willow.specs.Ranges.{compare_ends, compare_ranges, end_above, includes, includes_range, new_closed, End, Range}
 use Rattle.willow.specs.Ranges3d.{compare_ranges3d, includes_range3d, includes_triplet3d, range3d_from, range3d_prunable}
 use Rattle.willow.specs.Refusals.{Outcome, value}
 use Rattle.tables.specs.TableRows.{LentPath, lent_rows, lent_written_rows}
 use Rattle.tables.specs.Tables.{AnsweredBy, refusal_of}
 use Rattle.range_end.specs.EndValues.{compare_end_value, compare_value_end, is_end_value}
-use Rattle.path_bounds.specs.declared.PathEnd.{PathEnd}
-use Rattle.path_bounds.specs.declared.PathRange.{PathRange}
 use Rattle.path_bounds.specs.LentPaths.{on_lent, HoldsBytes}
 use Rattle.path_bounds.specs.LentRanges.{end_paths, path_end_of, path_range_of, range_paths}
 use Rattle.path_range_intersection.specs.Sides.{sides_met}
@@ -47,38 +46,38 @@ Judged L ps o = AnsweredBy (lent_rows L ps) (refusal_of o)
 pub record GroupingTables : Type 1 where
   pub lent_asked : {A : Type 0} (L : Limits) (ps : List LentPath) (o : Outcome A) → refusal_of o ≡ none → All HoldsBytes ps → Judged L ps (on_lent L ps o)
   -- path_end
-  pub path_end_gt_val : (L : Limits) (end : PathEnd) (e path : List ℕ) (count : ℕ) → Bytes e → Bytes path
+  pub path_end_gt_val : (L : Limits) (end : End ℕ) (e path : List ℕ) (count : ℕ) → Bytes e → Bytes path
       → Judged L (end_paths end e ++ ((path, count) ∷ []))
       (on_lent L (end_paths end e ++ ((path, count) ∷ [])) (value (end_above compare_paths (path_end_of end e) (path_in path count))))
-  pub path_end_compare_ends : (L : Limits) (end : PathEnd) (e : List ℕ) (end2 : PathEnd) (e2 : List ℕ) → Bytes e → Bytes e2
+  pub path_end_compare_ends : (L : Limits) (end : End ℕ) (e : List ℕ) (end2 : End ℕ) (e2 : List ℕ) → Bytes e → Bytes e2
       → Judged L (end_paths end e ++ end_paths end2 e2)
       (on_lent L (end_paths end e ++ end_paths end2 e2) (value (compare_ends compare_paths (path_end_of end e) (path_end_of end2 e2))))
-  pub path_end_end_equals : (L : Limits) (end : PathEnd) (e path : List ℕ) (count : ℕ) → Bytes e → Bytes path
+  pub path_end_end_equals : (L : Limits) (end : End ℕ) (e path : List ℕ) (count : ℕ) → Bytes e → Bytes path
       → Judged L (end_paths end e ++ ((path, count) ∷ []))
       (on_lent L (end_paths end e ++ ((path, count) ∷ [])) (value (is_end_value compare_paths (path_end_of end e) (path_in path count))))
-  pub path_end_compare_end : (L : Limits) (end : PathEnd) (e path : List ℕ) (count : ℕ) → Bytes e → Bytes path
+  pub path_end_compare_end : (L : Limits) (end : End ℕ) (e path : List ℕ) (count : ℕ) → Bytes e → Bytes path
       → Judged L (end_paths end e ++ ((path, count) ∷ []))
       (on_lent L (end_paths end e ++ ((path, count) ∷ [])) (value (compare_end_value compare_paths (path_end_of end e) (path_in path count))))
-  pub path_end_compare_value : (L : Limits) (path : List ℕ) (count : ℕ) (end : PathEnd) (e : List ℕ) → Bytes e → Bytes path
+  pub path_end_compare_value : (L : Limits) (path : List ℕ) (count : ℕ) (end : End ℕ) (e : List ℕ) → Bytes e → Bytes path
       → Judged L (end_paths end e ++ ((path, count) ∷ []))
       (on_lent L (end_paths end e ++ ((path, count) ∷ [])) (value (compare_value_end compare_paths (path_in path count) (path_end_of end e))))
   -- path_range, and its intersection
   pub path_range_new_closed : (L : Limits) (s : List ℕ) (cs : ℕ) (e : List ℕ) (ce : ℕ) → Bytes s → Bytes e
       → Judged L ((s, cs) ∷ (e, ce) ∷ []) (on_paths L s cs e ce (λ p q. value (is_some (new_closed compare_paths p q))))
-  pub path_range_includes : (L : Limits) (range : PathRange) (s e path : List ℕ) (count : ℕ) → Bytes s → Bytes e → Bytes path
+  pub path_range_includes : (L : Limits) (range : Range ℕ) (s e path : List ℕ) (count : ℕ) → Bytes s → Bytes e → Bytes path
       → Judged L (range_paths range s e ++ ((path, count) ∷ []))
       (on_lent L (range_paths range s e ++ ((path, count) ∷ [])) (value (includes compare_paths (path_range_of range s e) (path_in path count))))
-  pub path_range_includes_range : (L : Limits) (range : PathRange) (s e : List ℕ) (range2 : PathRange) (s2 e2 : List ℕ)
+  pub path_range_includes_range : (L : Limits) (range : Range ℕ) (s e : List ℕ) (range2 : Range ℕ) (s2 e2 : List ℕ)
       → Bytes s → Bytes e → Bytes s2 → Bytes e2
       → Judged L (range_paths range s e ++ range_paths range2 s2 e2)
       (on_lent L (range_paths range s e ++ range_paths range2 s2 e2)
       (value (includes_range compare_paths (path_range_of range s e) (path_range_of range2 s2 e2))))
-  pub path_range_compare : (L : Limits) (range : PathRange) (s e : List ℕ) (range2 : PathRange) (s2 e2 : List ℕ)
+  pub path_range_compare : (L : Limits) (range : Range ℕ) (s e : List ℕ) (range2 : Range ℕ) (s2 e2 : List ℕ)
       → Bytes s → Bytes e → Bytes s2 → Bytes e2
       → Judged L (range_paths range s e ++ range_paths range2 s2 e2)
       (on_lent L (range_paths range s e ++ range_paths range2 s2 e2)
       (value (compare_ranges compare_paths (path_range_of range s e) (path_range_of range2 s2 e2))))
-  pub path_range_intersection : (L : Limits) (range : PathRange) (s e : List ℕ) (range2 : PathRange) (s2 e2 : List ℕ)
+  pub path_range_intersection : (L : Limits) (range : Range ℕ) (s e : List ℕ) (range2 : Range ℕ) (s2 e2 : List ℕ)
       → Bytes s → Bytes e → Bytes s2 → Bytes e2
       → Judged L (range_paths range s e ++ range_paths range2 s2 e2)
       (on_lent L (range_paths range s e ++ range_paths range2 s2 e2)
@@ -115,34 +114,34 @@ pub record GroupingTables : Type 1 where
       → Judged L ((base, interest.area.count) ∷ (base2, other.area.count) ∷ [])
       (on_interests L interest base other base2 (λ a b. value (compare_interest a b)))
   -- range_3d_questions
-  pub range_3d_includes_triplet : (L : Limits) (range : Range3d) (s e : List ℕ) (subspace : ℕ) (path : List ℕ) (count timestamp : ℕ)
+  pub range_3d_includes_triplet : (L : Limits) (range : Range3d ℕ) (s e : List ℕ) (subspace : ℕ) (path : List ℕ) (count timestamp : ℕ)
       → Bytes s → Bytes e → Bytes path
-      → Judged L (range_paths range.paths s e ++ ((path, count) ∷ []))
+      → Judged L (range_paths (range_of range.paths) s e ++ ((path, count) ∷ []))
       (on_range3d L range s e path count (λ t p. value (includes_triplet3d t (triplet_at subspace p timestamp))))
-  pub range_3d_includes_entry : (L : Limits) (range : Range3d) (s e : List ℕ) (head : Head) (path : List ℕ) (count : ℕ)
+  pub range_3d_includes_entry : (L : Limits) (range : Range3d ℕ) (s e : List ℕ) (head : Head) (path : List ℕ) (count : ℕ)
       → Bytes s → Bytes e → Bytes path
-      → Judged L (range_paths range.paths s e ++ ((path, count) ∷ []))
+      → Judged L (range_paths (range_of range.paths) s e ++ ((path, count) ∷ []))
       (on_range3d L range s e path count (λ t p. value (includes_triplet3d t (triplet_at head.subspace p head.timestamp))))
-  pub range_3d_includes_range : (L : Limits) (range : Range3d) (s e : List ℕ) (other : Range3d) (s2 e2 : List ℕ)
+  pub range_3d_includes_range : (L : Limits) (range : Range3d ℕ) (s e : List ℕ) (other : Range3d ℕ) (s2 e2 : List ℕ)
       → Bytes s → Bytes e → Bytes s2 → Bytes e2
-      → Judged L (range_paths range.paths s e ++ range_paths other.paths s2 e2)
+      → Judged L (range_paths (range_of range.paths) s e ++ range_paths (range_of other.paths) s2 e2)
       (on_ranges3d L range s e other s2 e2 (λ t u. value (includes_range3d t u)))
-  pub range_3d_could_be_pruned_by_triplet : (L : Limits) (range : Range3d) (s e : List ℕ) (subspace : ℕ) (path : List ℕ) (count timestamp : ℕ)
+  pub range_3d_could_be_pruned_by_triplet : (L : Limits) (range : Range3d ℕ) (s e : List ℕ) (subspace : ℕ) (path : List ℕ) (count timestamp : ℕ)
       → Bytes s → Bytes e → Bytes path
-      → Judged L (range_paths range.paths s e ++ ((path, count) ∷ []))
+      → Judged L (range_paths (range_of range.paths) s e ++ ((path, count) ∷ []))
       (on_range3d L range s e path count (λ t p. value (range3d_prunable t (triplet_at subspace p timestamp))))
-  pub range_3d_could_be_pruned_by : (L : Limits) (range : Range3d) (s e : List ℕ) (head : Head) (path : List ℕ) (count : ℕ)
+  pub range_3d_could_be_pruned_by : (L : Limits) (range : Range3d ℕ) (s e : List ℕ) (head : Head) (path : List ℕ) (count : ℕ)
       → Bytes s → Bytes e → Bytes path
-      → Judged L (range_paths range.paths s e ++ ((path, count) ∷ []))
+      → Judged L (range_paths (range_of range.paths) s e ++ ((path, count) ∷ []))
       (on_range3d L range s e path count (λ t p. value (range3d_prunable t (triplet_at head.subspace p head.timestamp))))
-  pub range_3d_compare : (L : Limits) (range : Range3d) (s e : List ℕ) (other : Range3d) (s2 e2 : List ℕ)
+  pub range_3d_compare : (L : Limits) (range : Range3d ℕ) (s e : List ℕ) (other : Range3d ℕ) (s2 e2 : List ℕ)
       → Bytes s → Bytes e → Bytes s2 → Bytes e2
-      → Judged L (range_paths range.paths s e ++ range_paths other.paths s2 e2)
+      → Judged L (range_paths (range_of range.paths) s e ++ range_paths (range_of other.paths) s2 e2)
       (on_ranges3d L range s e other s2 e2 (λ t u. value (compare_ranges3d t u)))
   -- range_3d_intersection
-  pub range_3d_intersection : (L : Limits) (range : Range3d) (s e : List ℕ) (other : Range3d) (s2 e2 : List ℕ)
+  pub range_3d_intersection : (L : Limits) (range : Range3d ℕ) (s e : List ℕ) (other : Range3d ℕ) (s2 e2 : List ℕ)
       → Bytes s → Bytes e → Bytes s2 → Bytes e2
-      → Judged L (range_paths range.paths s e ++ range_paths other.paths s2 e2) (on_ranges3d L range s e other s2 e2 sides_met3d)
+      → Judged L (range_paths (range_of range.paths) s e ++ range_paths (range_of other.paths) s2 e2) (on_ranges3d L range s e other s2 e2 sides_met3d)
   pub range_3d_from_area : (L : Limits) (area : Area) (base out : List ℕ) → Bytes base
       → AnsweredBy
       (lent_written_rows L ((base, area.count) ∷ []) (SaidOfOne L base area.count (λ p. packed_outcome (next_greater_of L p))) out)

@@ -9,7 +9,6 @@ use Rattle.tables.specs.TableRows.{bad_limits, bad_kind}
 use Rattle.tables.specs.Tables.{AnsweredBy, refusal_of}
 use Rattle.kinds.specs.Kinds.{of_kinds, on_kinds, both, range_from}
 use Rattle.area_kinds.specs.AreaKinds.{area_from}
-use Rattle.path_kinds.specs.PathKinds.{path_end_from, path_range_from}
 use Rattle.range_3d_kinds.specs.Range3dKinds.{parts3d_from}
 
 -- THE CALLS. There are no premises.
@@ -26,12 +25,12 @@ pub record KindTables : Type 0 where
       (refusal_of (on_kinds L (both (area_from kind id count start end_kind end) (area_from kind2 id2 count2 start2 endKind2 end2)) value))
   -- path_kinds
   pub read_path_end : (L : Limits) (kind count : ℕ)
-      → AnsweredBy (bad_limits L ∷ bad_kind (kind ∷ []) ∷ []) (refusal_of (on_kinds L (path_end_from kind count) value))
+      → AnsweredBy (bad_limits L ∷ bad_kind (kind ∷ []) ∷ []) (refusal_of (on_kinds L (end_from kind count) value))
   pub read_path_range : (L : Limits) (start kind end : ℕ)
-      → AnsweredBy (bad_limits L ∷ bad_kind (kind ∷ []) ∷ []) (refusal_of (on_kinds L (path_range_from start kind end) value))
+      → AnsweredBy (bad_limits L ∷ bad_kind (kind ∷ []) ∷ []) (refusal_of (on_kinds L (range_from start kind end) value))
   pub read_path_ranges : (L : Limits) (start kind end start2 kind2 end2 : ℕ)
       → AnsweredBy (bad_limits L ∷ bad_kind (kind ∷ kind2 ∷ []) ∷ [])
-      (refusal_of (on_kinds L (both (path_range_from start kind end) (path_range_from start2 kind2 end2)) value))
+      (refusal_of (on_kinds L (both (range_from start kind end) (range_from start2 kind2 end2)) value))
   -- range_3d_kinds: subspaces, paths and times, each with a start, the kind of the end and the end
   pub read_range_3d : (L : Limits) (s sk e c pk d t tk u : ℕ)
       → AnsweredBy (bad_limits L ∷ bad_kind (sk ∷ pk ∷ tk ∷ []) ∷ []) (refusal_of (on_kinds L (parts3d_from s sk e c pk d t tk u) value))

@@ -1,11 +1,11 @@
 -- What the calls on two paths answer, each as a question on the paths that were lent.
 use Rattle.std.specs.Prelude.{ℕ, Bool}
-use Rattle.willow.specs.declared.Order.{Order}
+use Rattle.std.specs.declared.cmp.Ordering.{Ordering}
 use Rattle.willow.specs.Orders.{is_equal}
 use Rattle.willow.specs.Paths.{Path, compare_paths, is_prefix_of, is_related, common_count}
 use Rattle.willow.specs.Refusals.{Outcome, value}
 
-abbrev pub order_of : Path → Path → Outcome Order
+abbrev pub order_of : Path → Path → Outcome Ordering
 order_of p q = value (compare_paths p q)
 
 abbrev pub equality_of : Path → Path → Outcome Bool

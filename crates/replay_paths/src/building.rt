@@ -45,7 +45,7 @@ fn state_of(c: &Case) -> Builder {
 }
 
 impl Building {
-    // An empty buffer, and a state of zeros.
+    // An empty buffer, and a state of zeros, listed here since `Builder` has no default.
     pub(crate) fn new() -> Self {
         Building {
             buffer: ArrayVec::new(),

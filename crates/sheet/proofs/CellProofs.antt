@@ -15,25 +15,19 @@ use Rattle.willow.specs.Numbers.{Bytes, number_at}
 use Rattle.willow.specs.Packed.{pack, unpack, packed_count, length_before, well_formed, widest, Packed}
 use Rattle.willow.specs.Paths.{Path, Valid}
 use Rattle.willow.proofs.Bools.{both_true}
-use Rattle.willow.proofs.NumberLaws.{bytes_append, bytes_take, number_in_front, number_in_take}
-use Rattle.willow.proofs.PackedLaws.{pack_length, pack_valid_bytes, pack_passes, tested, unpack_valid, pack_unpack, unpack_pack, well_formed_length}
+use Rattle.willow.proofs.NumberLaws.{bytes_take, number_in_front}
+use Rattle.willow.proofs.PackedLaws.{pack_length, pack_passes, tested, unpack_valid, pack_unpack, unpack_pack, well_formed_length}
 use Rattle.willow.proofs.PackedPlaces.{unpack_length, well_formed_wider}
 use Rattle.number.specs.Overwriting.{zeros, all_zero}
-use Rattle.number.proofs.OverwritingLaws.{length_zeros, bytes_zeros, all_zero_zeros, all_zero_exactly}
+use Rattle.number.proofs.OverwritingLaws.{length_zeros, all_zero_zeros, all_zero_exactly}
 use Rattle.sheet.specs.Cells.{cell_size_of, path_cell, used_bytes, used_part, cell_path, cell_fits, CellLaws}
 
--- THE CELL OF A PATH: its length, and that it is bytes.
+-- THE CELL OF A PATH: its length.
 pub path_cell_length : (size : ℕ) (p : Path) → length (pack p) ≤ size → length (path_cell size p) ≡ size
 unfolding path_cell
 path_cell_length size p h =
     let z = length_zeros (size - length (pack p)) in
     length-append (pack p) (zeros (size - length (pack p))) ∙ omega arith
-
-pub path_cell_bytes : (L : Limits) (size : ℕ) (p : Path) → Valid L p → Bytes (path_cell size p)
-unfolding path_cell
-path_cell_bytes L size p v =
-    let k : ℕ = size - length (pack p) in
-    bytes_append (pack p) (zeros k) (pack_valid_bytes L p v) (bytes_zeros k)
 
 -- there is room for every valid path
 pub cell_room : (L : Limits) (p : Path) → Valid L p → length (pack p) ≤ cell_size_of L
@@ -100,13 +94,6 @@ module _ (L : Limits) (c : List ℕ) (t : CellTested L c) where
   -- its path may be read by the functions on packed paths, with the count that stands in the cell
   pub cell_packed : Words L → Packed (used_part c)
   cell_packed w = well_formed_wider L widest (used_part c) w.mcl_word w.mcc_word w.mpl_word t.formed
-
-  pub cell_count : packed_count (used_part c) ≡ number_at c 0
-  unfolding used_part packed_count
-  cell_count =
-      let l = ((tested L (used_part c)).0 t.formed).long in
-      let k = used_length in
-      number_in_take (used_bytes c) c 0 (omega arith) t.inside
 
   module _ (b : Bytes c) where
     part_bytes : Bytes (used_part c)

@@ -9,15 +9,11 @@ use lib.ListN.{length, take, drop, length-append, length-drop}
 use lib.Seq.{take_all}
 use borrow.Author.Tests.{le-leb, lt-leb}
 use Rattle.willow.specs.declared.Limits.{Limits}
-use Rattle.willow.specs.Answers.{path_in}
 use Rattle.willow.specs.Numbers.{number_at}
 use Rattle.willow.specs.Packed.{pack, length_before, well_formed}
 use Rattle.willow.specs.Paths.{Path}
-use Rattle.willow.proofs.PackedLaws.{pack_length}
 use Rattle.number.specs.Overwriting.{overwrite, zeros, all_zero}
 use Rattle.number.proofs.OverwritingLaws.{length_zeros, written_on, overwrite_all}
-use Rattle.packed.specs.Readable.{Readable}
-use Rattle.packed.proofs.PrefixLaws.{front}
 use Rattle.sheet.specs.Cells.{path_cell, used_bytes, used_part, cell_fits}
 
 -- WHAT A CELL USES, as the code cuts it out.
@@ -26,9 +22,9 @@ module _ (c : List ℕ) (k last : ℕ) (ek : k ≡ number_at c 0) (el : last ≡
   unfolding used_bytes
   used_is = rw (el, ek)
 
-  pub part_is : take (8 + 8 * k + last - 0) c ≡ used_part c
+  pub part_is : take (8 + 8 * k + last) c ≡ used_part c
   unfolding used_part
-  part_is = let n : 8 + 8 * k + last - 0 ≡ 8 + 8 * k + last = omega arith in rw (n, used_is)
+  part_is = rw used_is
 
 -- THE TEST.
 module _ (L : Limits) (c : List ℕ) where
@@ -55,13 +51,13 @@ module _ (L : Limits) (c : List ℕ) where
         abbrev used : ℕ
         used = 8 + 8 * k + last
 
-        pub cell_malformed : well_formed L (take (used - 0) c) ≡ false → cell_fits L c ≡ false
+        pub cell_malformed : well_formed L (take used c) ≡ false → cell_fits L c ≡ false
         unfolding cell_fits
         cell_malformed h =
             let formed : well_formed L (used_part c) ≡ false = rw (part_is c k last ek el) at h in
             rw (le-leb 8 (length c) long, ← ek, le-leb (8 + 8 * k) (length c) table, ← used_is c k last ek el, le-leb used (length c) inside, formed)
 
-        pub cell_formed : well_formed L (take (used - 0) c) ≡ true → cell_fits L c ≡ all_zero (take (length c - used) (drop used c))
+        pub cell_formed : well_formed L (take used c) ≡ true → cell_fits L c ≡ all_zero (take (length c - used) (drop used c))
         unfolding cell_fits
         cell_formed h =
             let formed : well_formed L (used_part c) ≡ true = rw (part_is c k last ek el) at h in
@@ -76,10 +72,3 @@ cell_written old packed cleared p used e h x y =
     let rest : List ℕ = zeros (length old - used) in
     let l : length (pack p ++ rest) ≡ length old = length-append (pack p) rest ∙ (let n = length_zeros (length old - used) in omega arith) in
     written_on old (pack p) rest packed cleared 0 used (omega arith) h x y ∙ overwrite_all old (pack p ++ rest) l ∙ rw e
-
--- the first n components of a lent path, packed, have this many bytes
-pub pack_prefix_length : (b : List ℕ) (n last : ℕ) → Readable b n → last ≡ length_before b n → 8 + 8 * n + last ≡ length (pack (path_in b n))
-pack_prefix_length b n last r e =
-    let f = front b n r in
-    let l = pack_length (path_in b n) in
-    omega arith

@@ -264,15 +264,6 @@ module _ (z : Shape) where
           rw (first_assembled (take z.front s) (drop (sheet_length z) s) rows length_first f)
           (rw (rest_assembled (take z.front s) (drop (sheet_length z) s) rows length_first f))
 
-      -- what is around the rows is as it was
-      pub first_with : take z.front (with_rows z s rows) ≡ take z.front s
-      unfolding with_rows
-      first_with = first_assembled (take z.front s) (drop (sheet_length z) s) rows length_first f
-
-      pub rest_with : drop (sheet_length z) (with_rows z s rows) ≡ drop (sheet_length z) s
-      unfolding with_rows
-      rest_with = rest_assembled (take z.front s) (drop (sheet_length z) s) rows length_first f
-
       pub length_with : length (with_rows z s rows) ≡ length s
       unfolding with_rows
       length_with = length_assembled (take z.front s) (drop (sheet_length z) s) rows length_first f ∙ simp length-drop (omega arith)

@@ -4,13 +4,12 @@ use Rattle.std.specs.Prelude.{ℕ, zero, suc, ◌+◌, ◌*◌, ◌-◌, ◌≤�
 use Rattle.willow.specs.Numbers.{le}
 use Rattle.number.specs.Overwriting.{zeros}
 use Rattle.number.specs.Records.{laid, Sized}
+use Rattle.sheet.specs.declared.shape.Shape as code
 
--- Where things stand: how many bytes stand before the heads, how many a head and a cell have, and how many rows there are.
-pub record Shape : Type 0 where
-  pub front : ℕ
-  pub head_size : ℕ
-  pub cell_size : ℕ
-  pub capacity : ℕ
+-- Where things stand, as the code has it: how many bytes stand before the heads, how many a head and a cell have, and how many rows
+-- there are.
+abbrev pub Shape : Type 0
+Shape = code.Shape
 
 -- Where the cells begin, and how long a sheet of this shape is.
 abbrev pub cells_from : Shape → ℕ

@@ -1,14 +1,14 @@
 // Parts of a sheet's rows, and cells. They are not open to a caller: most require that what they touch lies inside.
 
 ghost use Rattle.std.specs.Prelude.{◌≡◌, ◌+◌, ◌*◌, ◌<◌, ◌≤◌, length};
-ghost use Rattle.willow.specs.Answers.{path_in};
 ghost use Rattle.willow.specs.Numbers.{number_at};
-ghost use Rattle.willow.specs.Paths.{path_length};
+ghost use Rattle.willow.specs.Packed.{pack};
 ghost use Rattle.number.specs.Records.{record_at};
-ghost use Rattle.packed.specs.Readable.{Readable};
+ghost use Rattle.packed.specs.LentPaths.{path_of};
 ghost use Rattle.sheet.specs.Cells.{cell_fits, path_cell, used_bytes, used_part};
 
 use packed::inner;
+use packed::lent::LentPath;
 use willow::Limits;
 
 // Record i of those of one size that begin at a place: a head, or a cell.
@@ -17,8 +17,7 @@ pub fn record_part(s: &[u8], base: usize, size: usize, i: usize) -> &[u8]
     ensures { result.now ≡ record_at base size i s.now }
 {
     let a = base + size * i;
-    let e = a + size;
-    &s[a..e]
+    &s[a..a + size]
 }
 
 // Whether a cell holds a path within the limits, and zeros behind it, whatever its length and content.
@@ -38,11 +37,7 @@ pub fn cell_fits(limits: Limits, cell: &[u8]) -> bool
         return false;
     }
     let used = 8 + 8 * k + last;
-    if inner::well_formed(limits, &cell[0..used]) {
-        let n = cell.len();
-        return number::is_zero(&cell[used..n]);
-    }
-    false
+    inner::well_formed(limits, &cell[..used]) && number::is_zero(&cell[used..])
 }
 
 // The packed path of a cell that was tested.
@@ -52,16 +47,16 @@ pub fn path_part(cell: &[u8]) -> &[u8]
 {
     let k = number::read_u64(cell, 0) as usize;
     let used = 8 + 8 * k + inner::length_before(cell, k);
-    &cell[0..used]
+    &cell[..used]
 }
 
-// The first n components of a path written into its cell, packed, from the first byte on, and zeros behind them.
-pub fn write_cell(cell: &mut [u8], b: &[u8], n: usize)
-    requires { Readable b.now n × (8 + 8 * n + path_length (path_in b.now n) ≤ length cell.old) }
-    ensures { cell.new ≡ path_cell (length cell.old) (path_in b.now n) }
+// A path written into its cell, packed, from the first byte on, and zeros behind it.
+pub fn write_cell(cell: &mut [u8], path: LentPath)
+    requires { length (pack (path_of path)) ≤ length cell.old }
+    ensures { cell.new ≡ path_cell (length cell.old) (path_of path.entry) }
 {
-    let used = 8 + 8 * n + inner::length_before(b, n);
+    let used = path.packed_length();
     let rest = cell.len() - used;
-    inner::put_prefix(b, n, cell);
+    path.put(cell);
     number::zero(cell, used, rest);
 }

@@ -1,22 +1,19 @@
 -- The sides of an intersection of ranges of paths as numbers.
 use Rattle.std.specs.Prelude.{ℕ}
-use Rattle.path_range_intersection.specs.declared.EndSide.{EndSide}
-use Rattle.path_range_intersection.specs.declared.EndSide.TheVariants as ending
+use Rattle.willow.specs.Ranges.{End, closed, endless}
 use Rattle.path_range_intersection.specs.declared.Side.{Side}
-use Rattle.path_range_intersection.specs.declared.Side.TheVariants as side
+use Rattle.path_range_intersection.specs.declared.Side.TheVariants.{First, Second}
 
 -- Whose start stands: 0 the first's, 1 the second's.
 abbrev pub side_number : Side → ℕ
-side_number side.First = 0
-side_number side.Second = 1
+side_number First = 0
+side_number Second = 1
 
 -- "Kinds: end 0 open, 1 closed", and whose end it is; 0 beside kind 0.
-abbrev pub end_side_kind : EndSide → ℕ
-end_side_kind ending.First = 1
-end_side_kind ending.Second = 1
-end_side_kind ending.Open = 0
+abbrev pub end_side_kind : End Side → ℕ
+end_side_kind (closed a) = 1
+end_side_kind endless = 0
 
-abbrev pub end_side_number : EndSide → ℕ
-end_side_number ending.First = 0
-end_side_number ending.Second = 1
-end_side_number ending.Open = 0
+abbrev pub end_side_number : End Side → ℕ
+end_side_number (closed a) = side_number a
+end_side_number endless = 0

@@ -3,37 +3,35 @@
 #![tactic(auto)]
 
 ghost use Rattle.std.specs.Prelude.{◌≡◌};
+ghost use Rattle.willow.specs.Ranges.{end_of};
 ghost use Rattle.side_kinds.specs.SideKinds.{end_side_kind, end_side_number, side_number};
 
-use path_range_intersection::{EndSide, Side};
+use path_range_intersection::Side;
+use willow::RangeEnd;
 
 // Whose start stands.
 pub fn side_number(side: Side) -> u64
     ensures { result ≡ side_number side }
 {
-    match side {
-        Side::First => 0,
-        Side::Second => 1,
+    side as u64
+}
+
+// Whether an end stands, and whose: as in `kinds`, over sides. One function for both would be told how a number is made of what stands
+// in an end, and be no shorter.
+pub fn end_side_kind(end: RangeEnd<Side>) -> u64
+    ensures { result ≡ end_side_kind (end_of end) }
+{
+    match end {
+        RangeEnd::Closed(_) => 1,
+        RangeEnd::Open => 0,
     }
 }
 
-// Whether an end stands, and whose.
-pub fn end_side_kind(side: EndSide) -> u64
-    ensures { result ≡ end_side_kind side }
+pub fn end_side_number(end: RangeEnd<Side>) -> u64
+    ensures { result ≡ end_side_number (end_of end) }
 {
-    match side {
-        EndSide::First => 1,
-        EndSide::Second => 1,
-        EndSide::Open => 0,
-    }
-}
-
-pub fn end_side_number(side: EndSide) -> u64
-    ensures { result ≡ end_side_number side }
-{
-    match side {
-        EndSide::First => 0,
-        EndSide::Second => 1,
-        EndSide::Open => 0,
+    match end {
+        RangeEnd::Closed(side) => side_number(side),
+        RangeEnd::Open => 0,
     }
 }

@@ -1,21 +1,21 @@
 -- An offer's tests, a law for each way out: no store, another namespace, no path; and else it is answered and leaves what its entry does.
-use Prim.Native.Nat.{ℕ}
+use Prim.Native.Nat.{ℕ, ◌*◌, ◌+◌, ◌≤◌}
 use mathlib.Core.Path.{◌≡◌, sym, ◌∙◌, ap}
 use mathlib.Core.List.{List}
 use mathlib.Core.Option.{Option, none, some}
 use mathlib.Core.Bool.{true, false}
 use native.Mathlib.Omega.{arith}
+use lib.ListN.{length}
 use borrow.Author.Tests.{eq-eqb, ne_eqb}
 use Rattle.willow.specs.declared.Limits.{Limits}
 use Rattle.willow.specs.declared.Refusal.{Refusal}
 use Rattle.willow.specs.declared.Refusal.TheVariants.{BadSheet, WrongNamespace, BadPath}
-use Rattle.willow.specs.declared.Tested.{Tested}
-use Rattle.willow.specs.declared.Tested.TheVariants as tested
-use Rattle.willow.specs.Answers.{tested_refusal, limits_refusal, path_missing, lent_refusal, path_in, path_refusal}
+use Rattle.willow.specs.Answers.{limits_refusal, path_missing, lent_refusal, path_in, path_refusal}
 use Rattle.willow.specs.Entries.{Entry}
 use Rattle.willow.specs.Numbers.{Bytes}
-use Rattle.willow.specs.Packed.{lent}
+use Rattle.willow.specs.Packed.{lent, pack}
 use Rattle.willow.specs.Paths.{Path}
+use Rattle.sheet.specs.Cells.{cell_size_of}
 use Rattle.willow.specs.Store.{Offer, offer, Answer, refused, is_refused, entry_with, entry_from, offered, answer_offered, answer, after}
 use Rattle.willow.proofs.AnswerLaws.{path_passed}
 use Rattle.willow.proofs.LimitLaws.{limit_laws}
@@ -26,6 +26,11 @@ use Rattle.store_form.proofs.TestedLaws.{known}
 use Rattle.store_law.specs.Offers.{answer_in, leaves_in}
 use Rattle.store_law.proofs.Demand3BytesLaws.{refused_unchanged}
 use Rattle.store_taking.specs.Taking.{entry_answer, entry_leaves}
+
+-- a path that fits a cell, by equal limits, bytes and counts
+pub fits_as : (L M : Limits) (a b : List ℕ) (j k : ℕ) → L ≡ M → a ≡ b → j ≡ k → length (pack (path_in b k)) ≤ cell_size_of L
+    → length (pack (path_in a j)) ≤ cell_size_of M
+fits_as L M a b j k l e f h = rw (← l, e, f) h
 
 module _ (s : List ℕ) (o : Offer) where
   -- WHAT IS ANSWERED AND LEFT. Where it is a refusal, nothing is written.
@@ -68,9 +73,8 @@ module _ (s : List ℕ) (o : Offer) where
         five_alone = rw (eL, (limit_laws.limits_means (sizes_in s).limits).1 (known s stored).sizes.limits_accepted)
 
         -- 5
-        pub path_refused : (t : Tested) (r : Refusal) → tested_refusal t ≡ path_refusal L o.buffer o.count → t ≡ tested.Refused r
-            → OfferCase (refused r) s
-        path_refused t r e f = refused_case b r (answer_is ∙ no_path_lem (sym five_alone ∙ sym e ∙ ap tested_refusal f))
+        pub path_refused : (r : Refusal) → path_refusal L o.buffer o.count ≡ some r → OfferCase (refused r) s
+        path_refused r e = refused_case b r (answer_is ∙ no_path_lem (sym five_alone ∙ e))
           where
             go : (m : Option Path) → path_missing m ≡ some r → answer_offered (sizes_in s) (state_in s) (entry_from o m) ≡ refused r
             go none h = let k : BadPath ≡ r = cc in ap refused k

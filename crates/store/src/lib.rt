@@ -10,29 +10,26 @@ ghost use Rattle.store_answers.specs.Calls.{answer_of, offer_of};
 
 use entry::Head;
 use store_answers::Offered;
-use store_form::{MCC_AT, MCL_AT, MPL_AT, NAMESPACE_AT};
-use store_taking::inner;
-use willow::{Limits, Refusal, Tested};
+use store_form::NAMESPACE_AT;
+use store_taking::inner::take_offer;
+use willow::Refusal;
 
 // An entry offered: its namespace, its head, and its path as a buffer with a count. Refuses 2, then 4, then 5, then 13, then 14. Room
 // freed by pruning is used by the same offer.
-pub fn offer(sheet: &mut [u8], namespace: u64, head: Head, path: &[u8], count: u64) -> Offered
+pub fn offer(
+    sheet: &mut [u8],
+    namespace: u64,
+    head: Head,
+    path: &[u8],
+    count: u64,
+) -> Result<Offered, Refusal>
     ensures result_value { answer_of result ≡ answer_in sheet.old (offer (offer_of namespace head path.now count)) }
     ensures sheet_after { sheet.new ≡ leaves_in sheet.old (offer (offer_of namespace head path.now count)) }
 {
-    if store_test::inner::is_store(sheet) {
-        if number::read_u64(sheet, NAMESPACE_AT) != namespace {
-            return Offered::Refused(Refusal::WrongNamespace);
-        }
-        let limits = Limits {
-            mcl: number::read_u64(sheet, MCL_AT),
-            mcc: number::read_u64(sheet, MCC_AT),
-            mpl: number::read_u64(sheet, MPL_AT),
-        };
-        return match lent_path::test(limits, path, count) {
-            Tested::Refused(r) => Offered::Refused(r),
-            Tested::Fine => inner::take_offer(sheet, limits, head, path, count as usize),
-        };
+    let limits = store_test::lend(sheet)?.sizes.limits;
+    if number::read_u64(sheet, NAMESPACE_AT) != namespace {
+        return Err(Refusal::WrongNamespace);
     }
-    Offered::Refused(Refusal::BadSheet)
+    let path = lent_path::lend(limits, path, count)?;
+    take_offer(sheet, head, path)
 }

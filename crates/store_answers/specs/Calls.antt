@@ -1,5 +1,6 @@
 -- The store's calls as the code has them: an offer's arguments, and what the cases of its answer mean.
-use Rattle.std.specs.Prelude.{ℕ, List}
+use Rattle.std.specs.Prelude.{ℕ, List, Result, Ok, Err}
+use Rattle.willow.specs.declared.Refusal.{Refusal}
 use Rattle.willow.specs.Store.{Offer, Answer, refused, outdated, repeated, taken}
 use Rattle.entry.specs.declared.Head.{Head}
 use Rattle.store_answers.specs.declared.Offered.{Offered}
@@ -17,8 +18,8 @@ offer_of n h b k = record {
   count = k;
 }
 
-abbrev pub answer_of : Offered → Answer
-answer_of (offered.Refused r) = refused r
-answer_of offered.Outdated = outdated
-answer_of offered.Repeat = repeated
-answer_of (offered.Taken k) = taken k
+abbrev pub answer_of : Result Offered Refusal → Answer
+answer_of (Err r) = refused r
+answer_of (Ok offered.Outdated) = outdated
+answer_of (Ok offered.Repeat) = repeated
+answer_of (Ok (offered.Taken k)) = taken k

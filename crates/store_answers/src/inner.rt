@@ -14,19 +14,18 @@ use store_scan::Scan;
 use willow::Refusal;
 
 // What an offer that the totals have room for is answered, by what a pass over the held entries met and how many of them it leaves.
-pub fn decided(met: Scan, left: usize, capacity: usize) -> Offered
+pub fn decided(met: Scan, left: usize, capacity: usize) -> Result<Offered, Refusal>
     ensures { answer_of result ≡ answer_by false met.outdated met.repeat (eqb left capacity) met.pruned }
 {
     if met.outdated {
-        return Offered::Outdated;
+        Ok(Offered::Outdated)
+    } else if met.repeat {
+        Ok(Offered::Repeat)
+    } else if left == capacity {
+        Err(Refusal::NoRoom)
+    } else {
+        Ok(Offered::Taken(met.pruned as u64))
     }
-    if met.repeat {
-        return Offered::Repeat;
-    }
-    if left == capacity {
-        return Offered::Refused(Refusal::NoRoom);
-    }
-    Offered::Taken(met.pruned as u64)
 }
 
 // The payload bytes of an offer that is not filed: they go to let-go.

@@ -3,12 +3,9 @@
 
 pub mod inner;
 
-use willow::Refusal;
-
-// What an offer is answered; taken comes with how many entries it pruned.
+// What an offer that is not refused is answered; taken comes with how many entries it pruned.
 #[derive(Clone, Copy)]
 pub enum Offered {
-    Refused(Refusal),
     Outdated,
     Repeat,
     Taken(u64),

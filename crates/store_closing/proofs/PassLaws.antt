@@ -8,17 +8,25 @@ use native.Mathlib.Omega.{arith}
 use lib.ListN.{length, take, drop, replicate}
 use Rattle.willow.specs.declared.Limits.{Limits}
 use Rattle.willow.specs.Lists.{All, filter}
-use Rattle.willow.specs.Numbers.{Bytes}
-use Rattle.willow.proofs.ListLaws.{all_take, all_drop}
+use Rattle.willow.proofs.ListLaws.{all_take, all_drop, every_means}
 use Rattle.number.specs.Overwriting.{overwrite}
 use Rattle.number.proofs.OverwritingLaws.{overwrite_same, part_of_take, drop_behind}
 use Rattle.sheet.specs.Cells.{cell_fits}
-use Rattle.sheet.specs.Rows.{Shape, Row, cell, zero_row, Fitting, rows_of, row_at, with_rows}
+use Rattle.sheet.specs.Rows.{Shape, Room, Row, cell, zero_row, Fitting, rows_of, row_at, with_rows}
 use Rattle.sheet.proofs.RowLaws.{fitting_part, fitting_overwrite, fitting_rows, rows_whole, rows_with, with_with, length_with, room_with}
 use Rattle.store_form.specs.Stores.{store_shape}
 use Rattle.store_rows.specs.EntryRows.{sizes_of, RowsReadable}
+use Rattle.store_rows.proofs.RowEntryLaws.{cells_hold}
 use Rattle.store_closing.specs.Filing.{closed_up}
 use Rattle.store_closing.proofs.ClosingLaws.{rows_next, all_written, close_without, close_with, close_end}
+
+-- a shape that is another by an equation
+pub room_in : (z y : Shape) (s : List ℕ) → z ≡ y → Room y s → Room z s
+room_in z y s e r = rw e r
+
+pub cleared_in : (z y : Shape) (s t : List ℕ) (k n : ℕ) → z ≡ y → t ≡ with_rows z s (overwrite (rows_of z s) k (replicate (n - k) (zero_row z)))
+    → t ≡ with_rows y s (overwrite (rows_of y s) k (replicate (n - k) (zero_row y)))
+cleared_in z y s t k n e h = h ∙ ap (λ x. with_rows x s (overwrite (rows_of x s) k (replicate (n - k) (zero_row x)))) e
 
 -- the shape of these limits and this capacity, its rows, and the rows with row i written as row k
 abbrev pub shape_at : Limits → ℕ → Shape
@@ -71,21 +79,20 @@ module _ (L : Limits) (N n : ℕ) (s : List ℕ) (i k : ℕ) (r : RowsReadable L
       drop_behind (rows_at L N s) k (take 1 (drop i (rows_at L N s))) (omega arith) (i + 1) (omega arith)
 
   -- and all in use hold paths
-  moved_readable : Bytes (with_rows (shape_at L N) s (moved L N s i k)) → RowsReadable L N n (with_rows (shape_at L N) s (moved L N s i k))
-  moved_readable b =
+  moved_readable : RowsReadable L N n (with_rows (shape_at L N) s (moved L N s i k))
+  moved_readable =
       let c = r.count in
       let a = fits.count in
       let l = one_fits.count in
       let P : Row → Type 0 = λ x. cell_fits L (cell x) ≡ true in
       let new : List Row = take 1 (drop i (rows_at L N s)) in
-      let held : All P new = rw (part_of_take (rows_at L N s) n i 1 (omega arith)) at (all_take P 1 (drop i (take n (rows_at L N s))) (all_drop P i (take n (rows_at L N s)) r.cells)) in
+      let held : All P new = rw (part_of_take (rows_at L N s) n i 1 (omega arith)) at (all_take P 1 (drop i (take n (rows_at L N s))) (all_drop P i (take n (rows_at L N s)) (cells_hold L N n s r))) in
       record {
         limits_accepted = r.limits_accepted;
         capacity_accepted = r.capacity_accepted;
-        bytes = b;
         room = room_with (shape_at L N) s r.room (moved L N s i k) moved_fits;
         count = r.count;
-        cells = rw moved_rows (all_written P n k (rows_at L N s) new (omega arith) (omega arith) r.cells held);
+        cells = rw moved_rows ((every_means (λ x. cell_fits L (cell x)) (take n (moved L N s i k))).1 (all_written P n k (rows_at L N s) new (omega arith) (omega arith) (cells_hold L N n s r) held));
       }
 
 module _ (stays : Row → Bool) (L : Limits) (N n : ℕ) (s₀ : List ℕ) where
@@ -117,9 +124,9 @@ module _ (stays : Row → Bool) (L : Limits) (N n : ℕ) (s₀ : List ℕ) where
             count = (rw (next, e) at d.count);
           }
 
-      kept : Bytes (with_rows (shape_at L N) s (moved L N s i k)) → stays (row_at (shape_at L N) s i) ≡ true
+      kept : stays (row_at (shape_at L N) s i) ≡ true
           → Pass stays L N n s₀ (with_rows (shape_at L N) s (moved L N s i k)) (i + 1) (k + 1)
-      kept b e =
+      kept e =
           let a = d.low in
           let r = d.readable in
           let f = moved_fits L N n s i k r h a in
@@ -131,21 +138,20 @@ module _ (stays : Row → Bool) (L : Limits) (N n : ℕ) (s₀ : List ℕ) where
             within = omega arith;
             low = omega arith;
             long = length_with (shape_at L N) s r.room (moved L N s i k) f ∙ d.long;
-            readable = moved_readable L N n s i k r h a b;
+            readable = moved_readable L N n s i k r h a;
             same = rw g (with_with (shape_at L N) s r.room (moved L N s i k) f (closed_up stays (zero_row (shape_at L N)) (k + 1) (i + 1) n (moved L N s i k))
                 ∙ ap (with_rows (shape_at L N) s) (close_with stays (zero_row (shape_at L N)) k i n (rows_at L N s) a h rows_long e) ∙ d.same);
             count = rw (g, t) (omega arith);
           }
 
       -- a turn of the loop, in the terms of what it answers and leaves
-      pub pass_on : (s' : List ℕ) (k' : ℕ) → Bytes s' → k' ≡ cond (stays (row_at (shape_at L N) s i)) (k + 1) k
+      pub pass_on : (s' : List ℕ) (k' : ℕ) → k' ≡ cond (stays (row_at (shape_at L N) s i)) (k + 1) k
           → s' ≡ cond (stays (row_at (shape_at L N) s i)) (with_rows (shape_at L N) s (moved L N s i k)) s → Pass stays L N n s₀ s' (i + 1) k'
-      pass_on s' k' b ek es = rw (ek, es) (go (stays (row_at (shape_at L N) s i)) refl (rw es at b))
+      pass_on s' k' ek es = rw (ek, es) (go (stays (row_at (shape_at L N) s i)) refl)
         where
-          go : (t : Bool) → stays (row_at (shape_at L N) s i) ≡ t → Bytes (cond t (with_rows (shape_at L N) s (moved L N s i k)) s)
-              → Pass stays L N n s₀ (cond t (with_rows (shape_at L N) s (moved L N s i k)) s) (i + 1) (cond t (k + 1) k)
-          go true e b = kept b e
-          go false e b = goes e
+          go : (t : Bool) → stays (row_at (shape_at L N) s i) ≡ t → Pass stays L N n s₀ (cond t (with_rows (shape_at L N) s (moved L N s i k)) s) (i + 1) (cond t (k + 1) k)
+          go true e = kept e
+          go false e = goes e
 
     -- after the last row: how many stay, and what clearing the freed ones leaves
     module _ (h : n ≤ i) where

@@ -39,6 +39,11 @@ head_written out a b c d h lo ld ea eb ec ed =
     let four = written_on out ((x ++ y) ++ w) h.digest c d 0 24 (omega arith) (omega arith) three ed in
     four ∙ overwrite_all out (((x ++ y) ++ w) ++ h.digest) (omega arith) ∙ simp (append_assoc, append-nil)
 
+-- rows moved, in a shape that is another by an equation
+pub raised_in : (z y : Shape) (s t : List ℕ) (i k m : ℕ) → z ≡ y → t ≡ with_rows z s (overwrite (rows_of z s) k (take m (drop i (rows_of z s))))
+    → t ≡ with_rows y s (overwrite (rows_of y s) k (take m (drop i (rows_of y s))))
+raised_in z y s t i k m e h = h ∙ ap (λ x. with_rows x s (overwrite (rows_of x s) k (take m (drop i (rows_of x s))))) e
+
 -- a row put in at i, among n that are in use
 module _ (z : Shape) (n i : ℕ) (s : List ℕ) (r : Room z s) (few : n < z.capacity) (at : i ≤ n) where
   abbrev raised : List Row

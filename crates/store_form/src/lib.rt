@@ -9,17 +9,7 @@ pub const STORE_FRONT: usize = 64;
 
 pub const STORE_HEAD: usize = 56;
 
-// Where the numbers before the heads stand.
-pub const MCL_AT: usize = 0;
-
-pub const MCC_AT: usize = 8;
-
-pub const MPL_AT: usize = 16;
-
-pub const CAPACITY_AT: usize = 24;
-
-pub const COUNT_AT: usize = 32;
-
+// Where the numbers stand that a map has not, behind those of both sheets.
 pub const NAMESPACE_AT: usize = 40;
 
 pub const HELD_AT: usize = 48;

@@ -3,15 +3,11 @@
 use Prim.Native.Nat.{ℕ, ◌+◌, ◌-◌, ◌*◌, ◌≤◌, ◌<◌}
 use mathlib.Core.Path.{◌≡◌, refl, sym, ◌∙◌, ap}
 use mathlib.Core.List.{List, [], ◌∷◌, ◌++◌, append_assoc, append-nil}
-use mathlib.Core.Bool.{true, false}
 use native.Mathlib.Omega.{arith}
-use native.Mathlib.Nat.{mul-le-mul}
 use lib.ListN.{length, drop, replicate-append-replicate}
 use borrow.Author.Tests.{le-leb, lt-leb}
-use Rattle.willow.specs.declared.Limits.{Limits}
-use Rattle.willow.specs.declared.Refusal.TheVariants.{BadLimits, OutTooSmall}
-use Rattle.willow.specs.Answers.{limits_refusal, written_length, written_buffer}
-use Rattle.willow.specs.Limits.{Accepted, accepted_limits, accepted_capacity, max_capacity}
+use Rattle.willow.specs.declared.Refusal.TheVariants.{OutTooSmall}
+use Rattle.willow.specs.Answers.{written_length, written_buffer}
 use Rattle.willow.specs.Numbers.{le}
 use Rattle.willow.specs.Refusals.{refused, value}
 use Rattle.willow.specs.Store.{Sizes, fresh}
@@ -23,15 +19,6 @@ use Rattle.sheet.specs.Cells.{cell_size_of}
 use Rattle.sheet.specs.Rows.{Fitting, sheet_length, sheet_bytes}
 use Rattle.sheet.proofs.LayoutLaws.{layout_length, layout_number_put}
 use Rattle.store_form.specs.Stores.{store_numbers, store_shape, store_header, store_layout}
-use Rattle.store_law.specs.Offers.{fresh_store}
-
--- HOW LONG A STORE IS: no large number.
-pub cells_small : (L : Limits) (N : ℕ) → Accepted L → N ≤ max_capacity → cell_size_of L * N ≤ 12296 * 4096
-cells_small L N a h =
-    let b = a.mcc_within in
-    let m = a.mpl_within in
-    let w : cell_size_of L ≤ 12296 = omega arith in
-    mul-le-mul w h
 
 module _ (z : Sizes) where
   no_rows : Fitting (store_shape z) 0 []
@@ -104,16 +91,3 @@ module _ (z : Sizes) where
       let l = fresh_length in
       let b = le-leb (length (store_layout z fresh)) (length out) (omega arith) in
       (rw b (ap value (e ∙ sym l)), rw (b, l) f)
-
-  -- THE CALL, test by test.
-  pub limits_bad : accepted_limits z.limits ≡ false → fresh_store z ≡ refused BadLimits
-  unfolding fresh_store limits_refusal
-  limits_bad h = rw h
-
-  pub capacity_bad : accepted_limits z.limits ≡ true → accepted_capacity z.capacity ≡ false → fresh_store z ≡ refused BadLimits
-  unfolding fresh_store limits_refusal
-  capacity_bad h e = rw (h, e)
-
-  pub fresh_fine : accepted_limits z.limits ≡ true → accepted_capacity z.capacity ≡ true → value (store_layout z fresh) ≡ fresh_store z
-  unfolding fresh_store limits_refusal
-  fresh_fine h e = rw (h, e)

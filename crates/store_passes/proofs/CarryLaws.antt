@@ -8,9 +8,12 @@ use mathlib.Core.List.{List, [], ◌∷◌, ◌++◌, map}
 use native.Mathlib.Omega.{arith}
 use native.Mathlib.Decide.{dec_lt}
 use native.Mathlib.Numerals.{add-one}
-use lib.ListN.{length, take, drop, get_or, set, length-set}
-use lib.Seq.{take-suc, get_or-set_same, get_or-set_other}
+use lib.ListN.{length, take, drop, get_or}
+use lib.Seq.{get_or-take, length-take-le, take-suc}
+use Rattle.std.proofs.lemmas.List.{get_or_append_left, get_or_push, length_push}
 use Rattle.willow.specs.declared.Limits.{Limits}
+use Rattle.std.specs.Prelude.{Option, None, Some, slice_get}
+use Rattle.std.proofs.lemmas.Option.{get_or_from_slice_get, slice_get-get_or, slice_get_within}
 use Rattle.willow.specs.Entries.{Entry, PlaceBelow, is_newer}
 use Rattle.willow.specs.Lists.{In, All, Ascending}
 use Rattle.willow.proofs.ListLaws.{all_take}
@@ -21,9 +24,13 @@ use Rattle.sheet.proofs.CellProofs.{cell_tested}
 use Rattle.store_form.specs.Apart.{ascends, covers, covering, nearest_older, clear_from, carried}
 use Rattle.store_form.specs.Stores.{store_shape, entry_in}
 use Rattle.store_form.proofs.ApartLaws.{apart_theorem}
-use Rattle.store_rows.specs.EntryRows.{sizes_of, RowsReadable, row_entry}
+use Rattle.store_rows.specs.declared.rows.StoreRows.{StoreRows}
+use Rattle.store_rows.specs.EntryRows.{sizes_of}
+use Rattle.store_rows.specs.HeldRows.{held_entries, held_entry}
+use Rattle.store_rows.proofs.RowEntryLaws.{cells_hold}
 use Rattle.store_passes.specs.Positions.{entries_at, Positions}
-use Rattle.store_passes.proofs.LeftLaws.{used, entries, entries_count, entries_at_lem, entries_next, entries_end}
+use Rattle.store_rows.proofs.HeldLaws.{held_count, held_at, held_next, held_end}
+use Rattle.store_passes.proofs.LeftLaws.{used}
 
 -- POSITIONS. None; fewer of them; one more, which is written behind them.
 positions_none : (rows : List ℕ) → Positions rows 0 0
@@ -32,45 +39,75 @@ positions_none rows = record { room = omega arith; below = λ k h. absurd (omega
 positions_fewer : (rows : List ℕ) (d k i : ℕ) → Positions rows d i → k ≤ d → Positions rows k i
 positions_fewer rows d k i p h = let m = p.room in record { room = omega arith; below = λ j l. p.below j (omega arith) }
 
-positions_next : (rows : List ℕ) (d i : ℕ) → Positions rows d i → d < length rows → Positions (set rows d i) (d + 1) (i + 1)
-positions_next rows d i p h = record { room = rw (length-set rows d i) (omega arith); below = below }
+pub positions_cut : (rows : List ℕ) (d i : ℕ) → Positions rows d i → Positions (take d rows) (length (take d rows)) i
+positions_cut rows d i p =
+    let l = length-take-le d rows p.room in
+    record { room = omega arith; below = λ k h. rw (get_or-take d rows k 0 (omega arith)) (p.below k (omega arith)) }
+
+pub nearest_below : (rows : List ℕ) (i x : ℕ) → Positions rows (length rows) i → slice_get rows (length rows - 1) ≡ Some x → x < i
+nearest_below rows i x p g =
+    let b = p.below (length rows - 1) (slice_get_within rows (length rows - 1) x g) in
+    let e = get_or_from_slice_get rows (length rows - 1) x 0 g in
+    omega arith
+
+positions_next : (rows : List ℕ) (i : ℕ) → Positions rows (length rows) i → Positions (rows ++ (i ∷ [])) (length (rows ++ (i ∷ []))) (i + 1)
+positions_next rows i p = record { room = omega arith; below = below }
   where
-    below : (k : ℕ) → k < d + 1 → get_or (set rows d i) k 0 < i + 1
-    below k l = elim (dec_lt k d) [
-      | yes m ↦ (let b = p.below k m in rw (get_or-set_other rows d k i 0 (λ e. omega arith)) (omega arith))
-      | no m ↦ (let e : k ≡ d = omega arith in rw (e, get_or-set_same rows d i 0 h) (omega arith))
+    below : (k : ℕ) → k < length (rows ++ (i ∷ [])) → get_or (rows ++ (i ∷ [])) k 0 < i + 1
+    below k l = elim (dec_lt k (length rows)) [
+      | yes m ↦ (let b = p.below k m in rw (get_or_append_left rows (i ∷ []) 0 k m) (omega arith))
+      | no m ↦ (let e : length rows ≡ k = omega (arith, length_push rows i) in rw (get_or_push rows i 0 k e) (omega arith))
     ]
 
 -- THEIR ENTRIES.
-module _ (L : Limits) (N : ℕ) (s : List ℕ) (rows : List ℕ) where
-  entries_length : (d : ℕ) → length (entries_at L N s rows d) ≡ d
+module _ (r : StoreRows) (rows : List ℕ) where
+  entries_length : (d : ℕ) → length (entries_at r rows d) ≡ d
   entries_length zero = refl
   entries_length (suc d) = ap suc (entries_length d)
 
-  last_first : (d : ℕ) → 0 < d → entries_at L N s rows d ≡ row_entry L N s (get_or rows (d - 1) 0) ∷ entries_at L N s rows (d - 1)
+  last_first : (d : ℕ) → 0 < d → entries_at r rows d ≡ held_entry r (get_or rows (d - 1) 0) ∷ entries_at r rows (d - 1)
   last_first zero h = absurd (omega arith)
   last_first (suc d) h = let e : suc d - 1 ≡ d = omega arith in rw e
 
   -- a position is written behind them
-  as_before : (j x d : ℕ) → d ≤ j → entries_at L N s (set rows j x) d ≡ entries_at L N s rows d
-  as_before j x zero h = refl
-  as_before j x (suc d) h = rw (get_or-set_other rows j d x 0 (λ e. omega arith), as_before j x d (omega arith))
+  as_before : (x d : ℕ) → d ≤ length rows → entries_at r (rows ++ (x ∷ [])) d ≡ entries_at r rows d
+  as_before x zero h = refl
+  as_before x (suc d) h = rw (get_or_append_left rows (x ∷ []) 0 d (omega arith), as_before x d (omega arith))
 
-  with_next : (d x : ℕ) → d < length rows → entries_at L N s (set rows d x) (d + 1) ≡ row_entry L N s x ∷ entries_at L N s rows d
-  with_next d x h = rw (add-one d, get_or-set_same rows d x 0 h, as_before d x d (omega arith))
+  with_next : (x : ℕ) → entries_at r (rows ++ (x ∷ [])) (length (rows ++ (x ∷ []))) ≡ held_entry r x ∷ entries_at r rows (length rows)
+  with_next x = rw (length_push rows x, add-one (length rows), get_or_push rows x 0 (length rows) refl, as_before x (length rows) (omega arith))
+
+  -- of a list cut behind them
+  cut : (n d : ℕ) → d ≤ n → entries_at r (take n rows) d ≡ entries_at r rows d
+  cut n zero h = refl
+  cut n (suc d) h = rw (get_or-take n rows d 0 (omega arith), cut n d (omega arith))
+
+  pub cut_all : (d : ℕ) → d ≤ length rows → entries_at r (take d rows) (length (take d rows)) ≡ entries_at r rows d
+  cut_all d h = ap (entries_at r (take d rows)) (length-take-le d rows h) ∙ cut d d (omega arith)
 
   -- THOSE THAT COVER an entry, from the last position on.
-  module _ (e : Entry) (left : ℕ) (h : 0 < left) (b : Bool) (eb : b ≡ covers (row_entry L N s (get_or rows (left - 1) 0)) e) where
-    pub covering_stop : b ≡ true → covering e (entries_at L N s rows left) ≡ entries_at L N s rows left
+  module _ (e : Entry) (left : ℕ) (h : 0 < left) (b : Bool) (eb : b ≡ covers (held_entry r (get_or rows (left - 1) 0)) e) where
+    pub covering_stop : b ≡ true → covering e (entries_at r rows left) ≡ entries_at r rows left
     covering_stop k = rw (last_first left h, ← eb, k)
 
-    pub covering_next : b ≡ false → covering e (entries_at L N s rows left) ≡ covering e (entries_at L N s rows (left - 1))
+    pub covering_next : b ≡ false → covering e (entries_at r rows left) ≡ covering e (entries_at r rows (left - 1))
     covering_next k = rw (last_first left h, ← eb, k)
 
   -- THE NEAREST is that of the last position.
-  pub nearest_last : (e : Entry) (d : ℕ) → 0 < d → (b : Bool) → b ≡ is_newer (row_entry L N s (get_or rows (d - 1) 0)) e
-      → not b ≡ nearest_older e (entries_at L N s rows d)
-  nearest_last e d h b eb = rw (last_first d h, ← eb)
+  pub nearest_none : (e : Entry) → None ≡ slice_get rows (length rows - 1) → true ≡ nearest_older e (entries_at r rows (length rows))
+  nearest_none e g = elim (dec_lt 0 (length rows)) [
+    | yes h ↦ (
+        let k : ◌≡◌ {A = Option ℕ} None (Some (get_or rows (length rows - 1) 0)) = g ∙ slice_get-get_or rows (length rows - 1) 0 (omega arith) in
+        let z : ◌≡◌ {A = ℕ} 0 1 = cc in
+        absurd (omega arith))
+    | no h ↦ (let z : 0 ≡ length rows = omega arith in ap (λ d. nearest_older e (entries_at r rows d)) z)
+  ]
+
+  pub nearest_last : (e : Entry) (x : ℕ) → slice_get rows (length rows - 1) ≡ Some x → (b : Bool) → b ≡ is_newer (held_entry r x) e
+      → not b ≡ nearest_older e (entries_at r rows (length rows))
+  nearest_last e x g b eb =
+      let l = slice_get_within rows (length rows - 1) x g in
+      rw (last_first (length rows) (omega arith), get_or_from_slice_get rows (length rows - 1) x 0 g, ← eb)
 
 -- WHAT IS CARRIED behind one entry more.
 carried_more : (os es : List Entry) (e : Entry) → carried os (es ++ (e ∷ [])) ≡ e ∷ covering e (carried os es)
@@ -98,69 +135,70 @@ paths_within L (r ∷ rs) h =
     (omega arith, paths_within L rs h.1)
 
 -- WHERE THE PASS STANDS before row i: the carried rows' positions, and that from here on the test decides as the whole does.
-pub record Carrying (L : Limits) (N n : ℕ) (s rows : List ℕ) (d i : ℕ) : Type 0 where
-  pub within : i ≤ n
-  pub room : length rows ≡ 1025
-  pub positions : Positions rows d i
-  pub carries : entries_at L N s rows d ≡ carried [] (take i (entries L N n s))
-  pub left : clear_from (entries_at L N s rows d) (drop i (entries L N n s)) ≡ clear_from [] (entries L N n s)
+pub record Carrying (r : StoreRows) (rows : List ℕ) (i : ℕ) : Type 0 where
+  pub within : i ≤ r.count
+  pub positions : Positions rows (length rows) i
+  pub carries : entries_at r rows (length rows) ≡ carried [] (take i (held_entries r))
+  pub left : clear_from (entries_at r rows (length rows)) (drop i (held_entries r)) ≡ clear_from [] (held_entries r)
 
 -- Row i's turn: the entries of the first k positions are those that cover it.
-pub record Turn (L : Limits) (N n : ℕ) (s rows : List ℕ) (d i k : ℕ) : Type 0 where
-  pub carrying : Carrying L N n s rows d i
-  pub more : i < n
-  pub fewer : k ≤ d
-  pub covers_it : entries_at L N s rows k ≡ covering (row_entry L N s i) (entries_at L N s rows d)
+pub record Turn (r : StoreRows) (rows : List ℕ) (i k : ℕ) : Type 0 where
+  pub carrying : Carrying r rows i
+  pub more : i < r.count
+  pub fewer : k ≤ length rows
+  pub covers_it : entries_at r rows k ≡ covering (held_entry r i) (entries_at r rows (length rows))
 
-module _ (L : Limits) (N n : ℕ) (s : List ℕ) (r : RowsReadable L N n s) where
-  pub carry_start : (rows : List ℕ) → length rows ≡ 1025 → Carrying L N n s rows 0 0
-  carry_start rows l = record { within = omega arith; room = l; positions = positions_none rows; carries = refl; left = refl }
+module _ (r : StoreRows) where
+  pub carry_start : (rows : List ℕ) → rows ≡ [] → Carrying r rows 0
+  carry_start rows e = rw e (record { within = omega arith; positions = positions_none []; carries = refl; left = refl })
 
-  pub carry_end : (rows : List ℕ) (d i : ℕ) → Carrying L N n s rows d i → n ≤ i → true ≡ clear_from [] (entries L N n s)
-  carry_end rows d i c h = ap (clear_from (entries_at L N s rows d)) (sym (entries_end L N n s r.room r.count i h)) ∙ c.left
+  pub carry_end : (rows : List ℕ) (i : ℕ) → Carrying r rows i → r.count ≤ i → true ≡ clear_from [] (held_entries r)
+  carry_end rows i c h = ap (clear_from (entries_at r rows (length rows))) (sym (held_end r i h)) ∙ c.left
 
-  module _ (rows : List ℕ) (d i k : ℕ) (t : Turn L N n s rows d i k) where
-    pub turn_positions : Positions rows k i
-    turn_positions = positions_fewer rows d k i t.carrying.positions t.fewer
+  module _ (rows : List ℕ) (i k : ℕ) (t : Turn r rows i k) where
+    -- the others are left out
+    pub turn_positions : Positions (take k rows) (length (take k rows)) i
+    turn_positions = positions_cut rows k i (positions_fewer rows (length rows) k i t.carrying.positions t.fewer)
 
-    carried_next : row_entry L N s i ∷ entries_at L N s rows k ≡ carried [] (take (i + 1) (entries L N n s))
+    carried_next : held_entry r i ∷ entries_at r rows k ≡ carried [] (take (i + 1) (held_entries r))
     carried_next =
-        let l = entries_count L N n s r.room r.count in
+        let l = held_count r in
         let h = t.more in
-        let e : take (i + 1) (entries L N n s) ≡ take i (entries L N n s) ++ (row_entry L N s i ∷ []) =
-        rw (add-one i, ← entries_at_lem L N n s r.room r.count i h) (take-suc (entries L N n s) i (entry_in 0 (zero_row (store_shape (sizes_of L N)))) (omega arith)) in
-        rw (e, carried_more [] (take i (entries L N n s)) (row_entry L N s i), ← t.carrying.carries, t.covers_it)
+        let e : take (i + 1) (held_entries r) ≡ take i (held_entries r) ++ (held_entry r i ∷ []) =
+        rw (add-one i, ← held_at r i h) (take-suc (held_entries r) i (entry_in 0 (zero_row (store_shape (sizes_of r.sizes.limits r.sizes.capacity)))) (omega arith)) in
+        rw (e, carried_more [] (take i (held_entries r)) (held_entry r i), ← t.carrying.carries, t.covers_it)
 
     -- there is room for its position
-    pub turn_room : ascends (entries L N n s) ≡ true → k < 1025
+    pub turn_room : ascends (held_entries r) ≡ true → length (take k rows) < 1025
     turn_room a =
-        let m : ℕ = L.mcc in
-        let asc = ascending_take PlaceBelow (i + 1) (entries L N n s) ((apart_theorem.ascending (entries L N n s)).0 a) in
-        let paths = all_take (λ x. length x.path ≤ m) (i + 1) (entries L N n s) (paths_within L (used L N n s) r.cells) in
-        let short = apart_theorem.carried_short (take (i + 1) (entries L N n s)) m asc paths in
+        let m : ℕ = r.sizes.limits.mcc in
+        let asc = ascending_take PlaceBelow (i + 1) (held_entries r) ((apart_theorem.ascending (held_entries r)).0 a) in
+        let paths = all_take (λ x. length x.path ≤ m) (i + 1) (held_entries r) (paths_within r.sizes.limits (used r.sizes.limits r.sizes.capacity r.count r.bytes.now) (cells_hold _ _ _ _ r.readable)) in
+        let short = apart_theorem.carried_short (take (i + 1) (held_entries r)) m asc paths in
         let l = ap length carried_next in
-        let j = entries_length L N s rows k in
-        let f = r.limits_accepted.mcc_within in
+        let j = entries_length r rows k in
+        let n = length-take-le k rows t.fewer in
+        let f = r.readable.limits_accepted.mcc_within in
         omega arith
 
     -- and the test of the nearest decides
-    module _ (b : Bool) (eb : b ≡ nearest_older (row_entry L N s i) (entries_at L N s rows k)) where
-      step : clear_from (entries_at L N s rows d) (drop i (entries L N n s)) ≡ b && clear_from (row_entry L N s i ∷ entries_at L N s rows k) (drop (i + 1) (entries L N n s))
-      step = rw (entries_next L N n s r.room r.count i t.more, ← t.covers_it, ← eb)
+    module _ (b : Bool) (cut_test : b ≡ nearest_older (held_entry r i) (entries_at r (take k rows) (length (take k rows)))) where
+      eb : b ≡ nearest_older (held_entry r i) (entries_at r rows k)
+      eb = cut_test ∙ ap (nearest_older (held_entry r i)) (cut_all r rows k t.fewer)
 
-      pub turn_stop : b ≡ false → false ≡ clear_from [] (entries L N n s)
+      step : clear_from (entries_at r rows (length rows)) (drop i (held_entries r)) ≡ b && clear_from (held_entry r i ∷ entries_at r rows k) (drop (i + 1) (held_entries r))
+      step = rw (held_next r i t.more, ← t.covers_it, ← eb)
+
+      pub turn_stop : b ≡ false → false ≡ clear_from [] (held_entries r)
       turn_stop f = sym (step ∙ rw f) ∙ t.carrying.left
 
-      pub turn_next : ascends (entries L N n s) ≡ true → b ≡ true → Carrying L N n s (set rows k i) (k + 1) (i + 1)
-      turn_next a f =
-          let m = turn_room a in
+      pub turn_next : b ≡ true → Carrying r (take k rows ++ (i ∷ [])) (i + 1)
+      turn_next f =
           let h = t.more in
-          let l = t.carrying.room in
-          let w = with_next L N s rows k i (omega arith) in
+          let w = with_next r (take k rows) i ∙ ap (λ es. held_entry r i ∷ es) (cut_all r rows k t.fewer) in
           record {
             within = omega arith;
-            room = length-set rows k i ∙ l;
-            positions = positions_next rows k i turn_positions (omega arith);
+            positions = positions_next (take k rows) i turn_positions;
             carries = w ∙ carried_next;
-            left = ap (λ os. clear_from os (drop (i + 1) (entries L N n s))) w ∙ sym (step ∙ rw f) ∙ t.carrying.left;
+            left = ap (λ os. clear_from os (drop (i + 1) (held_entries r))) w ∙ sym (step ∙ rw f) ∙ t.carrying.left;
           }

@@ -1,29 +1,51 @@
 -- The rows in use from row i on: what a loop over them has still to test. Each way through a loop's body is one law of its test, by
 -- the first of the rows that are left.
-use Prim.Native.Nat.{ℕ, ◌+◌, ◌-◌, ◌*◌, ◌≤◌, ◌<◌}
+use Prim.Native.Nat.{ℕ, zero, suc, ◌+◌, ◌-◌, ◌≤◌, ◌<◌}
 use mathlib.Core.Path.{◌≡◌, refl, sym, ◌∙◌, ap}
-use mathlib.Core.Bool.{Bool, true, false}
-use mathlib.Core.List.{List, [], ◌∷◌, map}
+use mathlib.Core.Bool.{Bool, true, false, ◌&&◌}
+use mathlib.Core.List.{List, [], ◌∷◌}
 use native.Mathlib.Omega.{arith}
+use native.Mathlib.Decide.{dec_lt}
 use native.Mathlib.Numerals.{add-one}
 use lib.Dec.{eqb}
-use lib.ListN.{length, take, drop, get_or, length-map, length-drop, drop_of_length-le, get_or-map}
+use lib.ListN.{length, take, drop, get_or, length-drop, drop_of_length-le}
 use lib.Seq.{drop-cons, get_or-take, length-take-le}
 use borrow.Author.Tests.{eq-eqb, ne_eqb, eqb-true, eqb-false}
+use Rattle.std.specs.Bool.{MatchBool}
+use Rattle.std.specs.List.{range_with_len, AllWithin, HoldsAt}
+use Rattle.std.proofs.lemmas.List.FromFn.{get_or-range_with_len, length-range_with_len}
 use Rattle.willow.specs.declared.Limits.{Limits}
 use Rattle.willow.specs.Entries.{Entry, compare_places}
-use Rattle.willow.specs.Numbers.{number_at}
 use Rattle.willow.specs.Orders.{is_less}
 use Rattle.willow.specs.Store.{payloads}
-use Rattle.number.specs.Records.{record_at}
-use Rattle.sheet.specs.Cells.{cell_size_of, cell_fits}
-use Rattle.sheet.specs.Rows.{Row, cell, zero_row, cells_from, Room, rows_of, row_at}
+use Rattle.sheet.specs.Cells.{cell_fits}
+use Rattle.sheet.specs.Rows.{Row, cell, zero_row, Room, rows_of, row_at}
 use Rattle.sheet.proofs.RowLaws.{fitting_rows}
 use Rattle.store_form.specs.Apart.{ascends}
-use Rattle.store_form.specs.Stores.{store_head_size, store_shape, entry_in}
+use Rattle.store_form.specs.Stores.{store_shape}
 use Rattle.willow.specs.Lists.{every}
-use Rattle.store_rows.specs.EntryRows.{sizes_of, row_entry}
-use Rattle.store_rows.proofs.RowEntryLaws.{row_head, row_head_length, row_cell, row_cell_inside}
+use Rattle.store_rows.specs.declared.rows.StoreRows.{StoreRows}
+use Rattle.store_rows.specs.EntryRows.{sizes_of}
+use Rattle.store_rows.specs.HeldRows.{held_entries, held_entry}
+use Rattle.store_rows.proofs.HeldLaws.{held_count, held_end, held_next}
+
+-- Entries that do not ascend from one of them on do not ascend.
+ascends_dropped : (j : ℕ) (l : List Entry) → ascends (drop j l) ≡ false → ascends l ≡ false
+ascends_dropped zero l h = h
+ascends_dropped (suc j) [] h = h
+ascends_dropped (suc j) (x ∷ []) h = ascends_dropped j [] h
+ascends_dropped (suc j) (x ∷ (y ∷ ys)) h = rw (ascends_dropped j (y ∷ ys) h) (go (is_less (compare_places x y)))
+  where
+    go : (b : Bool) → (b && false) ≡ false
+    go true = refl
+    go false = refl
+
+-- The numbers from 1 on, by their places.
+number_at_place : (n k : ℕ) → k < n → get_or (range_with_len 1 n) k 0 ≡ 1 + k
+number_at_place n k q = omega (arith, get_or-range_with_len 1 n k 0 q)
+
+number_here : (n k : ℕ) → 1 ≤ k → k - 1 < n → get_or (range_with_len 1 n) (k - 1) 0 ≡ k
+number_here n k low q = omega (arith, number_at_place n (k - 1) q)
 
 -- A sum of whole numbers is x where what is left of it is x less its first.
 sum_first : (a m rest : ℕ) → a ≤ rest → eqb (a + m) rest ≡ eqb m (rest - a)
@@ -33,12 +55,9 @@ sum_first a m rest h = go (eqb m (rest - a)) refl
     go true e = let k = eqb-true m (rest - a) e in eq-eqb (a + m) rest (omega arith)
     go false e = ne_eqb (a + m) rest (λ k. eqb-false m (rest - a) e (omega arith))
 
--- The first n rows, and their entries.
+-- The first n rows.
 abbrev pub used : Limits → ℕ → ℕ → List ℕ → List Row
 used L N n s = take n (rows_of (store_shape (sizes_of L N)) s)
-
-abbrev pub entries : Limits → ℕ → ℕ → List ℕ → List Entry
-entries L N n s = map (entry_in 0) (used L N n s)
 
 module _ (L : Limits) (N n : ℕ) (s : List ℕ) (room : Room (store_shape (sizes_of L N)) s) (count : n ≤ N) where
   used_count : length (used L N n s) ≡ n
@@ -46,15 +65,9 @@ module _ (L : Limits) (N n : ℕ) (s : List ℕ) (room : Room (store_shape (size
       let f = (fitting_rows (store_shape (sizes_of L N)) s room).count in
       length-take-le n (rows_of (store_shape (sizes_of L N)) s) (omega arith)
 
-  pub entries_count : length (entries L N n s) ≡ n
-  entries_count = length-map (used L N n s) (entry_in 0) ∙ used_count
-
   -- WHAT IS LEFT: nothing behind the last, or row i and what is behind it.
   used_end : (i : ℕ) → n ≤ i → drop i (used L N n s) ≡ []
   used_end i h = let l = used_count in drop_of_length-le (used L N n s) {i = i} (omega arith)
-
-  pub entries_end : (i : ℕ) → n ≤ i → drop i (entries L N n s) ≡ []
-  entries_end i h = let l = entries_count in drop_of_length-le (entries L N n s) {i = i} (omega arith)
 
   module _ (i : ℕ) (h : i < n) where
     used_at : get_or (used L N n s) i (zero_row (store_shape (sizes_of L N))) ≡ row_at (store_shape (sizes_of L N)) s i
@@ -65,14 +78,6 @@ module _ (L : Limits) (N n : ℕ) (s : List ℕ) (room : Room (store_shape (size
         let l = used_count in
         drop-cons (used L N n s) i (zero_row (store_shape (sizes_of L N))) (omega arith) ∙ rw (used_at, add-one i)
 
-    pub entries_at_lem : get_or (entries L N n s) i (entry_in 0 (zero_row (store_shape (sizes_of L N)))) ≡ row_entry L N s i
-    entries_at_lem = get_or-map (entry_in 0) (used L N n s) i (zero_row (store_shape (sizes_of L N))) ∙ ap (entry_in 0) used_at
-
-    pub entries_next : drop i (entries L N n s) ≡ row_entry L N s i ∷ drop (i + 1) (entries L N n s)
-    entries_next =
-        let l = entries_count in
-        drop-cons (entries L N n s) i (entry_in 0 (zero_row (store_shape (sizes_of L N)))) (omega arith) ∙ rw (entries_at_lem, add-one i)
-
   -- THE CELLS: row i's, as it was cut out.
   abbrev holds : Row → Bool
   holds r = cell_fits L (cell r)
@@ -81,12 +86,9 @@ module _ (L : Limits) (N n : ℕ) (s : List ℕ) (room : Room (store_shape (size
   cells_end i h = rw (used_end i h)
 
   module _ (i : ℕ) (h : i < n) where
-    pub cell_inside : cells_from (store_shape (sizes_of L N)) + cell_size_of L * i + cell_size_of L ≤ length s
-    cell_inside = row_cell_inside L N s i room (omega arith)
-
-    module _ (c : List ℕ) (e : c ≡ record_at (cells_from (store_shape (sizes_of L N))) (cell_size_of L) i s) (b : Bool) (eb : b ≡ cell_fits L c) where
+    module _ (c : List ℕ) (e : c ≡ cell (row_at (store_shape (sizes_of L N)) s i)) (b : Bool) (eb : b ≡ cell_fits L c) where
       first_holds : holds (row_at (store_shape (sizes_of L N)) s i) ≡ b
-      first_holds = sym (eb ∙ ap (cell_fits L) (e ∙ row_cell L N s i room (omega arith)))
+      first_holds = sym (eb ∙ ap (cell_fits L) e)
 
       pub cells_next : b ≡ true → every holds (drop i (used L N n s)) ≡ every holds (drop (i + 1) (used L N n s))
       cells_next k = rw (used_next i h, first_holds, k)
@@ -94,44 +96,66 @@ module _ (L : Limits) (N n : ℕ) (s : List ℕ) (room : Room (store_shape (size
       pub cells_stop : b ≡ false → every holds (drop i (used L N n s)) ≡ false
       cells_stop k = rw (used_next i h, first_holds, k)
 
-  -- THE ORDER: row i and the next.
-  pub ascends_end : (i : ℕ) → n ≤ i + 1 → i ≤ n → ascends (drop i (entries L N n s)) ≡ true
-  ascends_end i h k = let c = entries_count in go (drop i (entries L N n s)) (simp length-drop (omega arith))
+module _ (r : StoreRows) where
+  -- THE ORDER: the row before i, and row i.
+  pub ascends_end : (i : ℕ) → r.count ≤ i → ascends (drop (i - 1) (held_entries r)) ≡ true
+  ascends_end i h = let c = held_count r in go (drop (i - 1) (held_entries r)) (simp length-drop (omega arith))
     where
       go : (l : List Entry) → length l ≤ 1 → ascends l ≡ true
       go [] m = refl
       go (x ∷ []) m = refl
       go (x ∷ (y ∷ ys)) m = absurd (omega arith)
 
-  module _ (i : ℕ) (h : i + 1 < n) (b : Bool) (eb : b ≡ is_less (compare_places (row_entry L N s i) (row_entry L N s (i + 1)))) where
-    two_left : drop i (entries L N n s) ≡ row_entry L N s i ∷ (row_entry L N s (i + 1) ∷ drop (i + 1 + 1) (entries L N n s))
-    two_left = entries_next i (omega arith) ∙ ap (λ l. row_entry L N s i ∷ l) (entries_next (i + 1) h)
+  module _ (i : ℕ) (low : 1 ≤ i) (h : i < r.count) (b : Bool) (eb : b ≡ is_less (compare_places (held_entry r (i - 1)) (held_entry r i))) where
+    two_left : drop (i - 1) (held_entries r) ≡ held_entry r (i - 1) ∷ (held_entry r i ∷ drop (i + 1) (held_entries r))
+    two_left =
+        let e : i - 1 + 1 ≡ i = omega arith in
+        held_next r (i - 1) (omega arith) ∙ ap (λ l. held_entry r (i - 1) ∷ l) (ap (λ k. drop k (held_entries r)) e ∙ held_next r i h)
 
-    pub ascends_next : b ≡ true → ascends (drop i (entries L N n s)) ≡ ascends (drop (i + 1) (entries L N n s))
-    ascends_next k = rw (two_left, ← eb, k, entries_next (i + 1) h)
+    pub ascends_next : b ≡ true → ascends (drop (i - 1) (held_entries r)) ≡ ascends (drop (i + 1 - 1) (held_entries r))
+    ascends_next k =
+        let e : i + 1 - 1 ≡ i = omega arith in
+        rw (two_left, ← eb, k) (ap ascends (sym (ap (λ j. drop j (held_entries r)) e ∙ held_next r i h)))
 
-    pub ascends_stop : b ≡ false → ascends (drop i (entries L N n s)) ≡ false
+    pub ascends_stop : b ≡ false → ascends (drop (i - 1) (held_entries r)) ≡ false
     ascends_stop k = rw (two_left, ← eb, k)
 
+  -- each row asked for being above the one before it, and all of them above, or one of them not
+  abbrev pub above : ℕ → Bool
+  above k = is_less (compare_places (held_entry r (k - 1)) (held_entry r k))
+
+  all_above : (m i : ℕ) → 1 ≤ i → r.count ≤ i + m → ((k : ℕ) → 1 ≤ k → k < r.count → above k ≡ true) → ascends (drop (i - 1) (held_entries r)) ≡ true
+  all_above zero i low h f = ascends_end i (omega arith)
+  all_above (suc m) i low h f = elim (dec_lt i r.count) [
+    | yes l ↦ (ascends_next i low l true (sym (f i low l)) refl ∙ all_above m (i + 1) (omega arith) (omega arith) f)
+    | no l ↦ ascends_end i (omega arith)
+  ]
+
+  pub ascends_by_number : (b : Bool)
+      → MatchBool b (AllWithin (λ k. above k ≡ true) (range_with_len 1 (r.count - 1)) 0 (length (range_with_len 1 (r.count - 1))))
+      ((k : ℕ) × (k < length (range_with_len 1 (r.count - 1))) × HoldsAt (λ k. above k ≡ false) (range_with_len 1 (r.count - 1)) k)
+      → b ≡ ascends (held_entries r)
+  ascends_by_number true m =
+      let l = length-range_with_len 1 (r.count - 1) in
+      sym (all_above r.count 1 (omega arith) (omega arith) (λ k a c. rw (number_here (r.count - 1) k a (omega arith)) at (m (k - 1) 0 (omega arith) (omega arith))))
+  ascends_by_number false m =
+      let l = length-range_with_len 1 (r.count - 1) in
+      let q : m.0 < r.count - 1 = omega (arith, m.1) in
+      let e : 1 + m.0 - 1 ≡ m.0 = omega arith in
+      let g = number_at_place (r.count - 1) m.0 q in
+      sym (ascends_dropped (1 + m.0 - 1) (held_entries r) (ascends_stop (1 + m.0) (omega arith) (omega arith) false (sym (rw g at (m.2 0))) refl))
+
   -- THE SUM: row i's payload length, as it was read.
-  pub sum_end : (i rest : ℕ) → n ≤ i → eqb (payloads (drop i (entries L N n s))) rest ≡ eqb rest 0
-  sum_end i rest h = rw (entries_end i h) (go (eqb rest 0) refl)
+  pub sum_end : (i rest : ℕ) → r.count ≤ i → eqb (payloads (drop i (held_entries r))) rest ≡ eqb rest 0
+  sum_end i rest h = rw (held_end r i h) (go (eqb rest 0) refl)
     where
       go : (b : Bool) → eqb rest 0 ≡ b → eqb 0 rest ≡ b
       go true e = eq-eqb 0 rest (sym (eqb-true rest 0 e))
       go false e = ne_eqb 0 rest (λ k. eqb-false rest 0 e (sym k))
 
-  module _ (i : ℕ) (h : i < n) (v : List ℕ) (e : v ≡ record_at 64 56 i s) where
-    pub head_long : length v ≡ store_head_size
-    head_long = ap length e ∙ row_head_length L N s i room (omega arith)
+  module _ (i : ℕ) (h : i < r.count) (x : ℕ) (ex : x ≡ (held_entry r i).payload_length) (rest : ℕ) where
+    pub sum_over : rest < x → eqb (payloads (drop i (held_entries r))) rest ≡ false
+    sum_over k = rw (held_next r i h, ← ex) (ne_eqb (x + payloads (drop (i + 1) (held_entries r))) rest (λ l. omega arith))
 
-    module _ (x : ℕ) (ex : x ≡ number_at v 16) (rest : ℕ) where
-      first_payload : (row_entry L N s i).payload_length ≡ x
-      unfolding entry_in
-      first_payload = sym (ex ∙ ap (λ l. number_at l 16) (e ∙ row_head L N s i room (omega arith)))
-
-      pub sum_over : rest < x → eqb (payloads (drop i (entries L N n s))) rest ≡ false
-      sum_over k = rw (entries_next i h, first_payload) (ne_eqb (x + payloads (drop (i + 1) (entries L N n s))) rest (λ l. omega arith))
-
-      pub sum_next : x ≤ rest → eqb (payloads (drop i (entries L N n s))) rest ≡ eqb (payloads (drop (i + 1) (entries L N n s))) (rest - x)
-      sum_next k = rw (entries_next i h, first_payload) (sum_first x (payloads (drop (i + 1) (entries L N n s))) rest k)
+    pub sum_next : x ≤ rest → eqb (payloads (drop i (held_entries r))) rest ≡ eqb (payloads (drop (i + 1) (held_entries r))) (rest - x)
+    sum_next k = rw (held_next r i h, ← ex) (sum_first x (payloads (drop (i + 1) (held_entries r))) rest k)

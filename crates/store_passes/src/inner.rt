@@ -1,135 +1,98 @@
 // The passes over the rows of a store that its test is made of. They are not open to a caller.
 
-ghost use Rattle.std.specs.Prelude.{true, [], map, ◌≡◌, ◌<◌, ◌≤◌, eqb, take};
+ghost use Rattle.std.specs.Prelude.{true, [], ◌≡◌, ◌<◌, ◌≤◌, eqb, length, take};
 ghost use Rattle.willow.specs.Limits.{Accepted, max_capacity};
+ghost use Rattle.willow.specs.Lists.{every};
 ghost use Rattle.willow.specs.Store.{payloads};
 ghost use Rattle.sheet.specs.Cells.{cell_fits};
 ghost use Rattle.sheet.specs.Rows.{cell, Room, rows_of};
 ghost use Rattle.store_form.specs.Apart.{ascends, clear_from, covering, nearest_older};
-ghost use Rattle.store_form.specs.Stores.{entry_in, store_shape};
-ghost use Rattle.willow.specs.Lists.{every};
-ghost use Rattle.store_rows.specs.EntryRows.{RowsReadable, row_entry, sizes_of};
+ghost use Rattle.store_form.specs.Stores.{store_shape};
+ghost use Rattle.store_rows.specs.EntryRows.{sizes_of};
+ghost use Rattle.store_rows.specs.HeldRows.{held_entries, held_entry};
 ghost use Rattle.store_passes.specs.Positions.{Positions, entries_at};
 
-use sheet::inner as rows;
-use store_form::{MAX_DEPTH, PAYLOAD_LENGTH_AT, STORE_FRONT, STORE_HEAD};
-use store_rows::inner as entries;
-use willow::Limits;
+use arrayvec::ArrayVec;
+use sheet::inner::cell_fits;
+use store_form::MAX_DEPTH;
+use store_rows::rows::StoreRows;
+use store_rows::sizes::StoreSizes;
 
-// The cells of the first n rows hold paths.
-pub fn cells_fit(s: &[u8], limits: Limits, capacity: usize, n: usize) -> bool
-    requires { Accepted limits × (capacity ≤ max_capacity) × Room (store_shape (sizes_of limits capacity)) s.now × (n ≤ capacity) }
-    ensures { result ≡ every (λ x. cell_fits limits (cell x)) (take n (rows_of (store_shape (sizes_of limits capacity)) s.now)) }
+// The cells of the first n rows hold paths: what the rows of a store promise is found out here, so that they are bytes yet.
+// `(0..n).all(..)` in place of the loop was tried, and the proof did not close: that a record lies inside is known of a turn's number.
+pub fn cells_fit(s: &[u8], sizes: StoreSizes, n: usize) -> bool
+    requires { Accepted sizes.limits × (sizes.capacity ≤ max_capacity) × Room (store_shape (sizes_of sizes.limits sizes.capacity)) s.now × (n ≤ sizes.capacity) }
+    ensures { result ≡ every (λ x. cell_fits sizes.limits (cell x)) (take n (rows_of (store_shape (sizes_of sizes.limits sizes.capacity)) s.now)) }
 {
-    let size = 8 * (limits.mcc as usize + 1) + limits.mpl as usize;
-    let from = STORE_FRONT + STORE_HEAD * capacity;
-    let mut i: usize = 0;
-    while i < n {
-        if rows::cell_fits(limits, rows::record_part(s, from, size, i)) {
-            i += 1;
-        } else {
+    let shape = sizes.shape();
+    for i in 0..n {
+        if !cell_fits(sizes.limits, shape.cell(s, i)) {
             return false;
         }
     }
     true
 }
 
-// The first n rows ascend by place.
-pub fn rows_ascend(s: &[u8], limits: Limits, capacity: usize, n: usize) -> bool
-    requires { RowsReadable limits capacity n s.now }
-    ensures { result ≡ ascends (map (entry_in 0) (take n (rows_of (store_shape (sizes_of limits capacity)) s.now))) }
+// The rows ascend by place.
+pub fn rows_ascend(rows: StoreRows) -> bool
+    ensures { result ≡ ascends (held_entries rows.entry) }
 {
-    let mut i: usize = 0;
-    while i + 1 < n {
-        if entries::row_below(s, limits, capacity, n, i, i + 1) {
-            i += 1;
-        } else {
-            return false;
-        }
-    }
-    true
+    (1..rows.count).all(|i| rows.is_below(i - 1, i))
 }
 
-// How many of the carried rows cover row i: those that do not stand in front, and are left out.
-fn covering(
-    s: &[u8],
-    limits: Limits,
-    capacity: usize,
-    n: usize,
-    carried: &[u64],
-    depth: usize,
-    i: usize,
-) -> usize
-    requires { RowsReadable limits capacity n s.now × (i < n) × Positions carried.now depth i }
-    ensures { (result ≤ depth) × (entries_at limits capacity s.now carried.now result ≡ covering (row_entry limits capacity s.now i) (entries_at limits capacity s.now carried.now depth)) }
+// How many of the carried rows cover row i: those that do not stand in front, and are left out. `rposition` in place of the loop was
+// tried, and the proof did not close: that a carried row is in use is known of its place among them.
+fn covering(rows: StoreRows, carried: &[usize], i: usize) -> usize
+    requires { (i < rows.count) × Positions carried.now (length carried.now) i }
+    ensures { (result ≤ length carried.now) × (entries_at rows.entry carried.now result ≡ covering (held_entry rows.entry i) (entries_at rows.entry carried.now (length carried.now))) }
 {
-    let mut left = depth;
-    while 0 < left {
-        if entries::row_covers(s, limits, capacity, n, carried[left - 1] as usize, i) {
-            return left;
+    for k in (0..carried.len()).rev() {
+        if rows.covers(carried[k], i) {
+            return k + 1;
         }
-        left -= 1;
     }
     0
 }
 
 // The last of the carried rows, if there is one, is not newer than row i.
-fn nearest_older(
-    s: &[u8],
-    limits: Limits,
-    capacity: usize,
-    n: usize,
-    carried: &[u64],
-    depth: usize,
-    i: usize,
-) -> bool
-    requires { RowsReadable limits capacity n s.now × (i < n) × Positions carried.now depth i }
-    ensures { result ≡ nearest_older (row_entry limits capacity s.now i) (entries_at limits capacity s.now carried.now depth) }
+fn nearest_older(rows: StoreRows, carried: &[usize], i: usize) -> bool
+    requires { (i < rows.count) × Positions carried.now (length carried.now) i }
+    ensures { result ≡ nearest_older (held_entry rows.entry i) (entries_at rows.entry carried.now (length carried.now)) }
 {
-    if depth == 0 {
-        return true;
+    match carried.last() {
+        None => true,
+        Some(nearest) => !rows.is_newer(*nearest, i),
     }
-    !entries::row_newer(s, limits, capacity, n, carried[depth - 1] as usize, i)
 }
 
-// None of the first n rows, which ascend, prunes another: the nearest that covers it is not newer.
-pub fn rows_clear(s: &[u8], limits: Limits, capacity: usize, n: usize) -> bool
-    requires { RowsReadable limits capacity n s.now × (ascends (map (entry_in 0) (take n (rows_of (store_shape (sizes_of limits capacity)) s.now))) ≡ true) }
-    ensures { result ≡ clear_from [] (map (entry_in 0) (take n (rows_of (store_shape (sizes_of limits capacity)) s.now))) }
+// None of the rows, which ascend, prunes another: the nearest that covers it is not newer.
+pub fn rows_clear(rows: StoreRows) -> bool
+    requires { ascends (held_entries rows) ≡ true }
+    ensures { result ≡ clear_from [] (held_entries rows.entry) }
 {
-    let mut carried = [0u64; MAX_DEPTH];
-    let mut depth: usize = 0;
-    let mut i: usize = 0;
-    while i < n {
-        depth = covering(s, limits, capacity, n, &carried, depth, i);
-        if nearest_older(s, limits, capacity, n, &carried, depth, i) {
-            carried[depth] = i as u64;
-            depth += 1;
-            i += 1;
-        } else {
+    let mut carried = ArrayVec::<usize, MAX_DEPTH>::new();
+    for i in 0..rows.count {
+        let depth = covering(rows, carried.as_slice(), i);
+        carried.truncate(depth);
+        if !nearest_older(rows, carried.as_slice(), i) {
             return false;
         }
+        carried.push(i);
     }
     true
 }
 
-// The payload lengths of the first n rows are the held bytes, added up as whole numbers: counted down, so that no sum wraps.
-pub fn sums_to(s: &[u8], limits: Limits, capacity: usize, n: usize, held: u64) -> bool
-    requires { Accepted limits × (capacity ≤ max_capacity) × Room (store_shape (sizes_of limits capacity)) s.now × (n ≤ capacity) }
-    ensures { result ≡ eqb (payloads (map (entry_in 0) (take n (rows_of (store_shape (sizes_of limits capacity)) s.now)))) held }
+// The payload lengths of the rows are the held bytes, added up as whole numbers: counted down, so that no sum wraps. `try_fold`
+// in place of the loop was tried, and the proof did not close: no law of the library says what it answers over a list.
+pub fn sums_to(rows: StoreRows, held: u64) -> bool
+    ensures { result ≡ eqb (payloads (held_entries rows.entry)) held }
 {
     let mut rest = held;
-    let mut i: usize = 0;
-    while i < n {
-        let x = number::read_u64(
-            rows::record_part(s, STORE_FRONT, STORE_HEAD, i),
-            PAYLOAD_LENGTH_AT,
-        );
-        if rest < x {
+    for i in 0..rows.count {
+        let Some(left) = rest.checked_sub(rows.payload_length(i)) else {
             return false;
-        }
-        rest -= x;
-        i += 1;
+        };
+        rest = left;
     }
     rest == 0
 }

@@ -1,6 +1,6 @@
 -- The calls on a store: what was tested and read decides which answer it is.
 use Prim.Native.Nat.{ℕ}
-use mathlib.Core.Path.{◌≡◌, ap}
+use mathlib.Core.Path.{◌≡◌}
 use mathlib.Core.List.{List}
 use mathlib.Core.Bool.{true, false}
 use lib.Dec.{ltb}
@@ -8,28 +8,19 @@ use lib.ListN.{get_or}
 use Rattle.willow.specs.declared.Refusal.TheVariants.{BadSheet}
 use Rattle.willow.specs.Numbers.{Bytes}
 use Rattle.willow.specs.Refusals.{refused, absent, value}
-use Rattle.store_form.specs.Stores.{sizes_in, count_in, state_in}
+use Rattle.store_form.specs.Stores.{count_in, state_in}
 use Rattle.store_form.specs.StoreTest.{is_store}
-use Rattle.store_reading.specs.declared.StoreNumbers.{StoreNumbers}
-use Rattle.store_reading.specs.Held.{numbers_of, numbers_read, no_entry, entry_read}
+use Rattle.store_reading.specs.Held.{no_entry, entry_read}
 use Rattle.store_reading.proofs.EntryAtLaws.{entries_many}
 
 -- No store: 2.
 module _ (s : List ℕ) (failed : is_store s ≡ false) where
-  pub numbers_bad : refused BadSheet ≡ numbers_read s
-  unfolding numbers_read
-  numbers_bad = rw failed
-
   pub entry_bad : (i : ℕ) → refused BadSheet ≡ entry_read s i
   unfolding entry_read
   entry_bad i = rw failed
 
--- A store: its numbers, and entry i, or none past the last.
+-- A store: entry i, or none past the last.
 module _ (s : List ℕ) (stored : is_store s ≡ true) where
-  pub numbers_there : (x : StoreNumbers) → x ≡ numbers_of (sizes_in s) (state_in s) → value x ≡ numbers_read s
-  unfolding numbers_read
-  numbers_there x e = rw stored (ap value e)
-
   module _ (b : Bytes s) (i : ℕ) where
     pub entry_none : ltb i (count_in s) ≡ false → absent ≡ entry_read s i
     unfolding entry_read

@@ -1,17 +1,19 @@
 -- Reading a store: what the calls answer, in the words of the state that its bytes hold. That the bytes hold one state and no other
 -- is `StoreReading` (crate `store_form`).
-use Rattle.std.specs.Prelude.{ℕ, List, [], cond, ltb, length, get_or, replicate}
+use Rattle.std.specs.Prelude.{ℕ, List, [], cond, ltb, length, get_or, replicate, Result, Ok, Err, Option, None, Some}
+use Rattle.willow.specs.declared.Refusal.{Refusal}
 use Rattle.willow.specs.Answers.{unless}
 use Rattle.willow.specs.Entries.{Entry}
 use Rattle.willow.specs.Packed.{pack}
 use Rattle.willow.specs.Refusals.{Outcome, refused, absent, value}
 use Rattle.willow.specs.Store.{Sizes, State}
 use Rattle.entry.specs.declared.Head.{Head}
+use Rattle.entry.specs.declared.LentEntry.{LentEntry}
+use Rattle.entry.specs.LentEntries as lent
 use Rattle.store_form.specs.Stores.{sizes_in, state_in}
 use Rattle.store_form.specs.StoreTest.{store_refusal}
 use Rattle.store_reading.specs.declared.StoreNumbers.{StoreNumbers}
-use Rattle.store_reading.specs.declared.NumbersRead.{NumbersRead}
-use Rattle.store_reading.specs.declared.NumbersRead.TheVariants as read
+use Rattle.store_reading.specs.declared.HeldEntry.{HeldEntry}
 
 -- "MCL, MCC, MPL, N, held count n (in both sheets at most N), namespace, held bytes, let-go bytes", of a store of these sizes in this state.
 abbrev pub numbers_of : Sizes → State → StoreNumbers
@@ -23,11 +25,6 @@ numbers_of z t = record {
   held = t.held;
   let_go = t.let_go;
 }
-
--- What the cases of the code's answer mean.
-abbrev pub numbers_outcome : NumbersRead → Outcome StoreNumbers
-numbers_outcome (read.Refused r) = refused r
-numbers_outcome (read.Is n) = value n
 
 -- The numbers of a store; 2.
 unfoldable pub numbers_read : List ℕ → Outcome StoreNumbers
@@ -66,3 +63,15 @@ abbrev pub head_or : Outcome Entry → Head
 head_or (refused r) = no_head
 head_or absent = no_head
 head_or (value e) = head_of e
+
+-- The count and the head together, as the code answers them.
+abbrev pub held_with : Head → Outcome ℕ → Outcome HeldEntry
+held_with h (refused r) = refused r
+held_with h absent = absent
+held_with h (value n) = value (record { count = n; head = h })
+
+-- What finding an entry answers.
+abbrev pub entry_outcome : Result (Option LentEntry) Refusal → Outcome Entry
+entry_outcome (Err r) = refused r
+entry_outcome (Ok None) = absent
+entry_outcome (Ok (Some e)) = value (lent.entry_of e)

@@ -1,38 +1,27 @@
-// A store that was tested, read: its numbers, and entry i. They are not open to a caller.
+// A store's numbers, and entry i. They are not open to a caller.
 
-ghost use Rattle.std.specs.Prelude.{true, ◌≡◌, ◌<◌, get_or, length};
-ghost use Rattle.willow.specs.Answers.{counted_outcome};
+ghost use Rattle.std.specs.Prelude.{true, ◌≡◌, IfOk, IfSome};
 ghost use Rattle.willow.specs.Packed.{pack};
-ghost use Rattle.willow.specs.Refusals.{value};
-ghost use Rattle.store_form.specs.Stores.{count_in, sizes_in, state_in};
+ghost use Rattle.packed.specs.LentPaths.{path_of};
+ghost use Rattle.store_form.specs.Stores.{sizes_in, state_in};
 ghost use Rattle.store_form.specs.StoreTest.{is_store};
-ghost use Rattle.store_reading.specs.Held.{head_of, no_entry, numbers_of};
+ghost use Rattle.store_reading.specs.Held.{entry_outcome, entry_read, numbers_of};
 
-use crate::{EntryRead, StoreNumbers};
-use entry::Head;
-use store_form::{CAPACITY_AT, COUNT_AT, HELD_AT, LET_GO_AT, MCC_AT, MCL_AT, MPL_AT, NAMESPACE_AT};
-use store_rows::inner as rows;
-use willow::{Counted, Limits};
+use crate::StoreNumbers;
+use entry::LentEntry;
+use sheet::front::{CAPACITY_AT, COUNT_AT};
+use store_form::{HELD_AT, LET_GO_AT, NAMESPACE_AT};
+use store_rows::sizes::StoreSizes;
+use store_test::lend;
+use willow::Refusal;
 
-// The limits of a store.
-fn limits(sheet: &[u8]) -> Limits
-    requires { is_store sheet.now ≡ true }
-    ensures { result ≡ (sizes_in sheet.now).limits }
-{
-    Limits {
-        mcl: number::read_u64(sheet, MCL_AT),
-        mcc: number::read_u64(sheet, MCC_AT),
-        mpl: number::read_u64(sheet, MPL_AT),
-    }
-}
-
-// The numbers of a store.
+// The numbers of a store that was tested.
 pub fn numbers(sheet: &[u8]) -> StoreNumbers
     requires { is_store sheet.now ≡ true }
     ensures { result ≡ numbers_of (sizes_in sheet.now) (state_in sheet.now) }
 {
     StoreNumbers {
-        limits: limits(sheet),
+        limits: StoreSizes::read(sheet).limits,
         capacity: number::read_u64(sheet, CAPACITY_AT),
         count: number::read_u64(sheet, COUNT_AT),
         namespace: number::read_u64(sheet, NAMESPACE_AT),
@@ -41,35 +30,19 @@ pub fn numbers(sheet: &[u8]) -> StoreNumbers
     }
 }
 
-// The packed path of entry i.
-pub fn path(sheet: &[u8], i: usize) -> &[u8]
-    requires { (is_store sheet.now ≡ true) × (i < count_in sheet.now) }
-    ensures { result.now ≡ pack (get_or (state_in sheet.now).entries i no_entry).path }
+// Entry i of a store, whose path is packed in a part of the sheet; none past the last. Refuses 2.
+pub fn find<'a>(sheet: &'a [u8], i: u64) -> Result<Option<LentEntry<'a>>, Refusal>
+    ensures found { entry_outcome result ≡ entry_read sheet.now i }
+    ensures whole { IfOk result (λ o. IfSome o (λ e. e.path.bytes.now ≡ pack (path_of e.path))) }
 {
-    let capacity = number::read_u64(sheet, CAPACITY_AT) as usize;
-    let n = number::read_u64(sheet, COUNT_AT) as usize;
-    rows::path_at(sheet, limits(sheet), capacity, n, i)
-}
-
-// The head of entry i.
-fn head(sheet: &[u8], i: usize) -> Head
-    requires { (is_store sheet.now ≡ true) × (i < count_in sheet.now) }
-    ensures { result ≡ head_of (get_or (state_in sheet.now).entries i no_entry) }
-{
-    let capacity = number::read_u64(sheet, CAPACITY_AT) as usize;
-    let n = number::read_u64(sheet, COUNT_AT) as usize;
-    rows::head_at(sheet, limits(sheet), capacity, n, i)
-}
-
-// Entry i but for its path.
-pub fn entry(sheet: &[u8], i: usize) -> EntryRead
-    requires { (is_store sheet.now ≡ true) × (i < count_in sheet.now) }
-    ensures count_value { counted_outcome result.count ≡ value (length (get_or (state_in sheet.now).entries i no_entry).path) }
-    ensures head_value { result.head ≡ head_of (get_or (state_in sheet.now).entries i no_entry) }
-{
-    let count = number::read_u64(path(sheet, i), 0);
-    EntryRead {
-        count: Counted::Count(count),
-        head: head(sheet, i),
+    let rows = lend(sheet)?;
+    if rows.count as u64 <= i {
+        return Ok(None);
     }
+    let i = i as usize;
+    Ok(Some(LentEntry {
+        namespace: number::read_u64(sheet, NAMESPACE_AT),
+        head: rows.head(i),
+        path: rows.path(i),
+    }))
 }

@@ -1,1 +1,2 @@
 pub mod RowEntryLaws
+pub mod HeldLaws

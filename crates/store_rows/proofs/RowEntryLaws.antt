@@ -1,106 +1,66 @@
--- A row that may be read: where its head and its cell stand, that its path may be walked, and that a head and a path which were read
--- from it make its entry.
+-- A row that may be read: that its path may be walked, and that a head and a path which were read from it make its entry.
 use Prim.Native.Nat.{ℕ, ◌+◌, ◌*◌, ◌≤◌, ◌<◌}
 use mathlib.Core.Path.{◌≡◌, sym, ◌∙◌, ap}
-use mathlib.Core.Bool.{true, false}
+use mathlib.Core.Bool.{true}
 use mathlib.Core.List.{List}
 use native.Mathlib.Omega.{arith}
 use lib.ListN.{length, take, drop}
 use lib.Seq.{get_or-take, length-take-le, take_all}
-use borrow.Author.Tests.{eq-eqb, ne_eqb}
 use Rattle.willow.specs.declared.Limits.{Limits}
 use Rattle.willow.specs.Answers.{path_in}
-use Rattle.willow.specs.Entries.{Entry}
-use Rattle.willow.specs.Numbers.{Bytes, number_at}
+use Rattle.willow.specs.Lists.{All}
+use Rattle.willow.specs.Numbers.{number_at}
 use Rattle.willow.specs.Packed.{unpack, packed_count, Packed}
-use Rattle.willow.specs.Paths.{Path, is_prefix_of}
 use Rattle.willow.proofs.AnswerLaws.{accepted_words}
+use Rattle.willow.proofs.ListLaws.{every_means}
 use Rattle.willow.proofs.PackedLaws.{unpack_count}
-use Rattle.number.specs.Records.{record_at}
-use Rattle.number.proofs.RecordLaws.{mul_room, length_record, all_at}
+use Rattle.number.proofs.RecordLaws.{all_at}
 use Rattle.packed.specs.Readable.{Readable}
 use Rattle.entry.specs.declared.Head.{Head}
 use Rattle.entry.specs.Heads.{entry_at}
-use Rattle.sheet.specs.Cells.{cell_size_of, used_bytes, used_part, cell_path, cell_fits}
-use Rattle.sheet.specs.Rows.{Row, head, cell, zero_row, cells_from, Room, rows_of, row_at}
+use Rattle.sheet.specs.Cells.{used_bytes, used_part, cell_path, cell_fits}
+use Rattle.sheet.specs.Rows.{Row, head, cell, zero_row, rows_of, row_at}
 use Rattle.sheet.proofs.CellProofs.{CellTested, cell_tested, cell_packed}
-use Rattle.sheet.proofs.RowLaws.{fitting_rows, head_at, cell_at}
-use Rattle.store_form.specs.Apart.{covers}
-use Rattle.store_form.specs.Stores.{store_head_size, store_shape, sizes_in, count_in, entry_in}
+use Rattle.sheet.proofs.RowLaws.{fitting_rows}
+use Rattle.store_form.specs.Stores.{store_shape, sizes_in, count_in, entry_in}
 use Rattle.store_form.specs.StoreTest.{is_store}
 use Rattle.store_form.proofs.TestedLaws.{known}
 use Rattle.store_rows.specs.EntryRows.{sizes_of, RowsReadable, row_entry}
 
 -- THE ROWS OF A STORE that passed may be read.
-pub store_readable : (s : List ℕ) → is_store s ≡ true → Bytes s → RowsReadable (sizes_in s).limits (sizes_in s).capacity (count_in s) s
-store_readable s stored b =
+pub store_readable : (s : List ℕ) → is_store s ≡ true → RowsReadable (sizes_in s).limits (sizes_in s).capacity (count_in s) s
+store_readable s stored =
     let k = known s stored in
     record {
       limits_accepted = k.sizes.limits_accepted;
       capacity_accepted = k.sizes.capacity_accepted;
-      bytes = b;
       room = k.room;
       count = k.sizes.count;
-      cells = k.rows.cells_fit;
+      cells = (every_means (λ r. cell_fits (sizes_in s).limits (cell r)) (take (count_in s) (rows_of (store_shape (sizes_in s)) s))).1 k.rows.cells_fit;
     }
 
--- COVERING by two subspaces and two paths that were read.
-module _ (o e : Entry) (a b : ℕ) (ea : a ≡ o.subspace) (eb : b ≡ e.subspace) where
-  pub covers_not : (a ≡ b → ⊥) → false ≡ covers o e
-  covers_not n = rw (← ea, ← eb, ne_eqb a b n)
-
-  pub covers_by : a ≡ b → (p q : Path) → p ≡ o.path → q ≡ e.path → is_prefix_of p q ≡ covers o e
-  covers_by k p q ep eq = rw (← ea, ← eb, eq-eqb a b k, ep, eq)
-
--- ROW i OF A SHEET WITH ROOM for it: its head and its cell, as they are cut out.
-module _ (L : Limits) (N : ℕ) (s : List ℕ) (i : ℕ) (room : Room (store_shape (sizes_of L N)) s) (h : i < N) where
-  pub row_head : record_at 64 56 i s ≡ head (row_at (store_shape (sizes_of L N)) s i)
-  row_head = head_at (store_shape (sizes_of L N)) s room i (zero_row (store_shape (sizes_of L N))) h
-
-  pub row_head_length : length (record_at 64 56 i s) ≡ store_head_size
-  row_head_length = length_record 64 56 i s (omega arith)
-
-  pub row_cell : record_at (cells_from (store_shape (sizes_of L N))) (cell_size_of L) i s ≡ cell (row_at (store_shape (sizes_of L N)) s i)
-  row_cell = cell_at (store_shape (sizes_of L N)) s room i (zero_row (store_shape (sizes_of L N))) h
-
-  pub row_cell_inside : cells_from (store_shape (sizes_of L N)) + cell_size_of L * i + cell_size_of L ≤ length s
-  row_cell_inside = let m = mul_room (cell_size_of L) i N h in omega arith
+-- the cells of the first n rows, one by one
+pub cells_hold : (L : Limits) (N n : ℕ) (s : List ℕ) → RowsReadable L N n s → All (λ r. cell_fits L (cell r) ≡ true) (take n (rows_of (store_shape (sizes_of L N)) s))
+cells_hold L N n s r = (every_means (λ x. cell_fits L (cell x)) (take n (rows_of (store_shape (sizes_of L N)) s))).0 r.cells
 
 -- ROW i OF THOSE THAT MAY BE READ.
 module _ (L : Limits) (N n : ℕ) (s : List ℕ) (i : ℕ) (r : RowsReadable L N n s) (h : i < n) where
   abbrev row : Row
   row = row_at (store_shape (sizes_of L N)) s i
 
-  within : i < N
-  within = let k = r.count in omega arith
-
-  -- its head
-  module _ (v : List ℕ) (e : v ≡ record_at 64 56 i s) where
-    head_is : v ≡ head row
-    head_is = e ∙ row_head L N s i r.room within
-
-    pub head_long : length v ≡ store_head_size
-    head_long = ap length e ∙ row_head_length L N s i r.room within
-
-    pub head_subspace : (a : ℕ) → a ≡ number_at v 0 → a ≡ (row_entry L N s i).subspace
-    unfolding entry_in
-    head_subspace a g = g ∙ ap (λ l. number_at l 0) head_is
-
-    -- with the path of the row's cell it makes the row's entry
+  -- its head with its path makes its entry
+  module _ (v : List ℕ) (e : v ≡ head row) where
     pub head_entry : (x : Head) → (x.subspace ≡ number_at v 0) × (x.timestamp ≡ number_at v 8) × (x.payload_length ≡ number_at v 16) × (x.digest ≡ drop 24 v)
-        → entry_at 0 x (cell_path (cell row)) ≡ row_entry L N s i
+        → entry_at 0 x (row_entry L N s i).path ≡ row_entry L N s i
     unfolding entry_in
     head_entry x f =
-        let a = f.0 ∙ ap (λ l. number_at l 0) head_is in
-        let b = f.1 ∙ ap (λ l. number_at l 8) head_is in
-        let c = f.2 ∙ ap (λ l. number_at l 16) head_is in
-        let d = f.3 ∙ ap (drop 24) head_is in
+        let a = f.0 ∙ ap (λ l. number_at l 0) e in
+        let b = f.1 ∙ ap (λ l. number_at l 8) e in
+        let c = f.2 ∙ ap (λ l. number_at l 16) e in
+        let d = f.3 ∙ ap (drop 24) e in
         λ t. record { namespace = 0; subspace = a t; path = cell_path (cell row); timestamp = b t; payload_length = c t; digest = d t }
 
-  -- its cell: it lies inside, and it holds a path
-  pub cell_inside : cells_from (store_shape (sizes_of L N)) + cell_size_of L * i + cell_size_of L ≤ length s
-  cell_inside = row_cell_inside L N s i r.room within
-
+  -- its cell holds a path
   pub row_tested : CellTested L (cell row)
   row_tested =
       let rows : List Row = rows_of (store_shape (sizes_of L N)) s in
@@ -108,18 +68,15 @@ module _ (L : Limits) (N n : ℕ) (s : List ℕ) (i : ℕ) (r : RowsReadable L N
       let f = (fitting_rows (store_shape (sizes_of L N)) s r.room).count in
       let k = r.count in
       let l = length-take-le n rows (omega arith) in
-      let t = all_at (λ x. cell_fits L (cell x) ≡ true) (take n rows) i none r.cells (omega arith) in
+      let t = all_at (λ x. cell_fits L (cell x) ≡ true) (take n rows) i none (cells_hold L N n s r) (omega arith) in
       (cell_tested L (cell row)).0 (ap (λ x. cell_fits L (cell x)) (sym (get_or-take n rows i none h)) ∙ t)
 
-  module _ (c : List ℕ) (e : c ≡ record_at (cells_from (store_shape (sizes_of L N))) (cell_size_of L) i s) where
-    cell_is : c ≡ cell row
-    cell_is = e ∙ row_cell L N s i r.room within
-
+  module _ (c : List ℕ) (e : c ≡ cell row) where
     pub cell_ready : (8 + 8 * number_at c 0 ≤ length c) × (used_bytes c ≤ length c)
-    cell_ready = rw cell_is (row_tested.table, row_tested.inside)
+    cell_ready = rw e (row_tested.table, row_tested.inside)
 
     pub cell_part : (p : List ℕ) → p ≡ used_part c → p ≡ used_part (cell row)
-    cell_part p g = g ∙ ap used_part cell_is
+    cell_part p g = g ∙ ap used_part e
 
   -- that path, cut out of the cell, with its count: it may be walked, and it is the path of the row's entry
   module _ (p : List ℕ) (e : p ≡ used_part (cell row)) where
@@ -130,13 +87,6 @@ module _ (L : Limits) (N n : ℕ) (s : List ℕ) (i : ℕ) (r : RowsReadable L N
       pub path_readable : Readable p k
       path_readable = record { packed = path_packed; within = omega arith }
 
-      path_is : path_in p k ≡ cell_path (cell row)
-      unfolding path_in cell_path
-      path_is = let c = unpack_count p in take_all k (unpack p) (omega arith) ∙ ap unpack e
-
       pub path_entry : path_in p k ≡ (row_entry L N s i).path
-      unfolding entry_in
-      path_entry = path_is
-
-      pub row_entry_lem : (x : Head) → entry_at 0 x (cell_path (cell row)) ≡ row_entry L N s i → entry_at 0 x (path_in p k) ≡ row_entry L N s i
-      row_entry_lem x g = ap (entry_at 0 x) path_is ∙ g
+      unfolding path_in cell_path entry_in
+      path_entry = let c = unpack_count p in take_all k (unpack p) (omega arith) ∙ ap unpack e

@@ -3,8 +3,7 @@ use Rattle.std.specs.Prelude.{ℕ, ◌≤◌, ◌≡◌, true, List, take}
 use Rattle.willow.specs.declared.Limits.{Limits}
 use Rattle.willow.specs.Entries.{Entry}
 use Rattle.willow.specs.Limits.{Accepted, max_capacity}
-use Rattle.willow.specs.Lists.{All}
-use Rattle.willow.specs.Numbers.{Bytes}
+use Rattle.willow.specs.Lists.{every}
 use Rattle.willow.specs.Store.{Sizes}
 use Rattle.sheet.specs.Cells.{cell_fits}
 use Rattle.sheet.specs.Rows.{cell, Room, rows_of, row_at}
@@ -18,10 +17,9 @@ sizes_of L N = record { limits = L; capacity = N; namespace = 0 }
 pub record RowsReadable (L : Limits) (N n : ℕ) (s : List ℕ) : Type 0 where
   pub limits_accepted : Accepted L
   pub capacity_accepted : N ≤ max_capacity
-  pub bytes : Bytes s
   pub room : Room (store_shape (sizes_of L N)) s
   pub count : n ≤ N
-  pub cells : All (λ r. cell_fits L (cell r) ≡ true) (take n (rows_of (store_shape (sizes_of L N)) s))
+  pub cells : every (λ r. cell_fits L (cell r)) (take n (rows_of (store_shape (sizes_of L N)) s)) ≡ true
 
 -- Entry i, of no namespace.
 abbrev pub row_entry : Limits → ℕ → List ℕ → ℕ → Entry

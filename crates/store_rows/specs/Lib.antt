@@ -1,1 +1,2 @@
 pub mod EntryRows
+pub mod HeldRows

@@ -8,8 +8,8 @@ use mathlib.Core.Bool.{Bool, true, false, ◌||◌, not, cond, or-true, or-false
 use native.Mathlib.Omega.{arith}
 use lib.ListN.{length, take, drop}
 use borrow.Author.Tests.{not-true}
-use Rattle.willow.specs.declared.Order.{Order}
-use Rattle.willow.specs.declared.Order.TheVariants.{Less, Equal, Greater}
+use Rattle.std.specs.declared.cmp.Ordering.{Ordering}
+use Rattle.std.specs.declared.cmp.Ordering.TheVariants.{Less, Equal, Greater}
 use Rattle.willow.specs.Entries.{Entry, PlaceBelow, place, prunes, same_entry, compare_places}
 use Rattle.willow.specs.Lists.{In, All, Ascending, any, filter}
 use Rattle.willow.specs.Orders.{is_less, is_equal, reverse, compare_pairs, compare_numbers}
@@ -62,7 +62,7 @@ module _ (e : Entry) where
     unfolding met
     outdated_step = go (prunes h e) (prunes e h) (compare_places h e)
       where
-        go : (p q : Bool) (o : Order) → (met_by p q o h.payload_length a).outdated || pruners hs ≡ a.outdated || (p || pruners hs)
+        go : (p q : Bool) (o : Ordering) → (met_by p q o h.payload_length a).outdated || pruners hs ≡ a.outdated || (p || pruners hs)
         go true q o = sym (or-true a.outdated)
         go false true o = refl
         go false false Less = refl
@@ -74,7 +74,7 @@ module _ (e : Entry) where
       unfolding met
       repeat_step n = rw k (go (prunes e h) refl (compare_places h e) refl)
         where
-          go : (q : Bool) → prunes e h ≡ q → (o : Order) → compare_places h e ≡ o
+          go : (q : Bool) → prunes e h ≡ q → (o : Ordering) → compare_places h e ≡ o
               → (met_by false q o h.payload_length a).repeat || repeats hs ≡ a.repeat || (same_entry h e || repeats hs)
           go true f o g = rw (pruned_differs h e f)
           go false f Less g = rw (same_at_place h e n k f, g) refl
@@ -85,7 +85,7 @@ module _ (e : Entry) where
       unfolding met
       pruned_step = rw k (go (prunes e h) (compare_places h e))
         where
-          go : (q : Bool) (o : Order) → (met_by false q o h.payload_length a).pruned + length (pruned_by e hs) ≡ a.pruned + length (cond q (h ∷ pruned_by e hs) (pruned_by e hs))
+          go : (q : Bool) (o : Ordering) → (met_by false q o h.payload_length a).pruned + length (pruned_by e hs) ≡ a.pruned + length (cond q (h ∷ pruned_by e hs) (pruned_by e hs))
           go true o = omega arith
           go false Less = refl
           go false Equal = refl
@@ -95,7 +95,7 @@ module _ (e : Entry) where
       unfolding met
       freed_step = rw k (go (prunes e h) (compare_places h e))
         where
-          go : (q : Bool) (o : Order) → (met_by false q o h.payload_length a).freed + payloads (pruned_by e hs) ≡ a.freed + payloads (cond q (h ∷ pruned_by e hs) (pruned_by e hs))
+          go : (q : Bool) (o : Ordering) → (met_by false q o h.payload_length a).freed + payloads (pruned_by e hs) ≡ a.freed + payloads (cond q (h ∷ pruned_by e hs) (pruned_by e hs))
           go true o = omega arith
           go false Less = refl
           go false Equal = refl
@@ -105,7 +105,7 @@ module _ (e : Entry) where
       unfolding met
       place_step = rw k (go (prunes e h) (compare_places h e) refl)
         where
-          go : (q : Bool) (o : Order) → compare_places h e ≡ o
+          go : (q : Bool) (o : Ordering) → compare_places h e ≡ o
               → (met_by false q o h.payload_length a).place + length (below (left_by e hs)) ≡ a.place + length (below (cond (not q) (h ∷ left_by e hs) (left_by e hs)))
           go true o g = refl
           go false Less g = rw g (omega arith)
@@ -169,7 +169,7 @@ module _ (e : Entry) where
       flipped : compare_places e x ≡ reverse (compare_places x e)
       flipped = places_total.flip (place x) (place e)
 
-      go : (o : Order) → compare_places x e ≡ o → file e xs ≡ take (length (below xs)) xs ++ (e ∷ drop (length (below xs)) xs)
+      go : (o : Ordering) → compare_places x e ≡ o → file e xs ≡ take (length (below xs)) xs ++ (e ∷ drop (length (below xs)) xs)
           → file e (x ∷ xs) ≡ take (length (below (x ∷ xs))) (x ∷ xs) ++ (e ∷ drop (length (below (x ∷ xs))) (x ∷ xs))
       go Less k ih = rw (flipped, k) (ap (λ l. x ∷ l) ih)
       go Equal k ih = absurd (h x (inl refl) k)

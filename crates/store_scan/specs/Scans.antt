@@ -1,7 +1,7 @@
 -- One pass over the held entries: what an offer meets there. What the pass finds is what the table asks.
 use Rattle.std.specs.Prelude.{ℕ, ◌+◌, ◌≤◌, ◌≡◌, Bool, true, false, List, [], ◌∷◌, ◌++◌, length, take, drop}
-use Rattle.willow.specs.declared.Order.{Order}
-use Rattle.willow.specs.declared.Order.TheVariants.{Less, Equal, Greater}
+use Rattle.std.specs.declared.cmp.Ordering.{Ordering}
+use Rattle.std.specs.declared.cmp.Ordering.TheVariants.{Less, Equal, Greater}
 use Rattle.willow.specs.Entries.{Entry, PlaceBelow, prunes, same_entry, compare_places}
 use Rattle.willow.specs.Lists.{Ascending, any}
 use Rattle.willow.specs.Store.{payloads, pruned_by, left_by, file}
@@ -14,13 +14,13 @@ nothing_met = record { outdated = false; repeat = false; pruned = 0; freed = 0; 
 
 -- A held entry that neither prunes the offer nor is pruned by it: below the offer it goes before it; at the same place it is the same
 -- entry, since else one of the two would prune the other.
-abbrev pub met_at_place : Order → Scan → Scan
+abbrev pub met_at_place : Ordering → Scan → Scan
 met_at_place Less a = record { outdated = a.outdated; repeat = a.repeat; pruned = a.pruned; freed = a.freed; place = a.place + 1 }
 met_at_place Equal a = record { outdated = a.outdated; repeat = true; pruned = a.pruned; freed = a.freed; place = a.place }
 met_at_place Greater a = a
 
 -- By the tests: it prunes the offer; the offer prunes it, and its payload bytes go; or by their places.
-abbrev pub met_by : Bool → Bool → Order → ℕ → Scan → Scan
+abbrev pub met_by : Bool → Bool → Ordering → ℕ → Scan → Scan
 met_by true q o m a = record { outdated = true; repeat = a.repeat; pruned = a.pruned; freed = a.freed; place = a.place }
 met_by false true o m a = record { outdated = a.outdated; repeat = a.repeat; pruned = a.pruned + 1; freed = a.freed + m; place = a.place }
 met_by false false o m a = met_at_place o a

@@ -7,14 +7,14 @@ use native.Mathlib.Omega.{arith}
 use lib.Dec.{eqb, ltb}
 use lib.ListN.{length}
 use borrow.Author.Tests.{le-ltb}
-use Rattle.willow.specs.declared.Order.{Order}
-use Rattle.willow.specs.declared.Order.TheVariants.{Less, Equal, Greater}
+use Rattle.std.specs.declared.cmp.Ordering.{Ordering}
+use Rattle.std.specs.declared.cmp.Ordering.TheVariants.{Less, Equal, Greater}
 use Rattle.willow.specs.Entries.{Entry, prunes, same_entry, compare_places}
 use Rattle.willow.specs.Limits.{max_word}
 use Rattle.willow.specs.Lists.{any}
 use Rattle.willow.specs.Numbers.{Bytes}
 use Rattle.willow.specs.Paths.{Path}
-use Rattle.willow.specs.Store.{payloads, pruned_by, left_by, file, answer_by, answer_entry, outdated}
+use Rattle.willow.specs.Store.{payloads, pruned_by, left_by, file, answer_by, answer_entry}
 use Rattle.willow.proofs.FilingLaws.{filter_payloads}
 use Rattle.willow.proofs.ListLaws.{all_also}
 use Rattle.entry.specs.declared.Head.{Head}
@@ -36,7 +36,7 @@ met_pruned : (e h : Entry) (a : Scan) → (met e a h).pruned ≤ a.pruned + 1
 unfolding met
 met_pruned e h a = go (prunes h e) (prunes e h) (compare_places h e)
   where
-    go : (p q : Bool) (o : Order) → (met_by p q o h.payload_length a).pruned ≤ a.pruned + 1
+    go : (p q : Bool) (o : Ordering) → (met_by p q o h.payload_length a).pruned ≤ a.pruned + 1
     go true q o = omega arith
     go false true o = omega arith
     go false false Less = omega arith

@@ -1,14 +1,16 @@
 -- An offer as the code goes through it, a law for each way out: what is answered, and the bytes that are left. What the code read of
 -- the header stands beside the sheet as numbers that are equal to its own.
-use Prim.Native.Nat.{ℕ, ◌+◌, ◌-◌, ◌*◌, ◌≤◌, ◌<◌}
+use Prim.Native.Nat.{ℕ, ◌+◌, ◌-◌, ◌≤◌, ◌<◌}
 use mathlib.Core.Path.{◌≡◌, refl, sym, ◌∙◌, ap}
 use mathlib.Core.List.{List, ◌++◌, map}
+use mathlib.Core.Logic.{◌⊎◌, inl, inr}
 use mathlib.Core.Option.{none}
 use mathlib.Core.Bool.{true, false}
 use native.Mathlib.Omega.{arith}
 use lib.Dec.{eqb}
 use lib.ListN.{length, take, drop, length-map}
 use borrow.Author.Tests.{lt-ltb, eqb-false}
+use Rattle.std.specs.Prelude.{Result, Ok, Err}
 use Rattle.willow.specs.declared.Limits.{Limits}
 use Rattle.willow.specs.declared.Refusal.{Refusal}
 use Rattle.willow.specs.declared.Refusal.TheVariants.{TotalFull}
@@ -16,14 +18,13 @@ use Rattle.willow.specs.Answers.{path_in, path_refusal}
 use Rattle.willow.specs.Entries.{Entry}
 use Rattle.willow.specs.Limits.{max_word}
 use Rattle.willow.specs.Numbers.{Bytes, le}
-use Rattle.willow.specs.Paths.{Path, path_length}
+use Rattle.willow.specs.Packed.{pack}
+use Rattle.willow.specs.Paths.{Path}
 use Rattle.willow.specs.Store.{Answer, refused, outdated, repeated, taken, payloads, left_by, file, answer_by, answer_entry, after_answer}
 use Rattle.willow.proofs.AnswerLaws.{path_passed}
-use Rattle.willow.proofs.PackedLaws.{pack_length, unpack_valid}
+use Rattle.willow.proofs.PackedLaws.{unpack_valid}
 use Rattle.willow.proofs.ValidLaws.{valid_take}
 use Rattle.number.specs.Overwriting.{overwrite}
-use Rattle.packed.proofs.PrefixLaws.{front}
-use Rattle.lent_path.proofs.TestLaws.{readable}
 use Rattle.entry.specs.declared.Head.{Head}
 use Rattle.entry.specs.Heads.{entry_at}
 use Rattle.sheet.specs.Cells.{cell_size_of}
@@ -51,15 +52,9 @@ use Rattle.store_answers.proofs.TableLaws.{taken_means}
 use Rattle.store_taking.proofs.WriteLaws.{as_found, let_go_put, counts_put}
 
 -- THE PATH of an offer is packed in no more bytes than a cell has.
-pub path_fits : (L : Limits) (b : List ℕ) (k : ℕ) → Bytes b → path_refusal L b k ≡ none → 8 + 8 * k + path_length (path_in b k) ≤ cell_size_of L
+pub path_fits : (L : Limits) (b : List ℕ) (k : ℕ) → Bytes b → path_refusal L b k ≡ none → length (pack (path_in b k)) ≤ cell_size_of L
 unfolding path_in
-path_fits L b k bytes e =
-    let h = (path_passed L b k e).1 in
-    let v = valid_take L k _ (unpack_valid L b h.formed bytes) in
-    let n = (front b k (readable L b k e)).count in
-    let r = cell_room L _ v in
-    let l = pack_length (path_in b k) in
-    omega arith
+path_fits L b k bytes e = cell_room L _ (valid_take L k _ (unpack_valid L b (path_passed L b k e).1.formed bytes))
 
 -- WHAT WAS READ of a header.
 pub record Numbers : Type 0 where
@@ -79,8 +74,8 @@ module _ (s : List ℕ) (stored : is_store s ≡ true) (x : Numbers) (same : x �
   pub payloads_word : payloads (map (entry_in 0) (take x.count (rows_of (store_shape (sizes_of x.limits x.capacity)) s))) ≤ max_word
   payloads_word = rw same (meeting.payloads_word s stored)
 
-  pub rows_readable : Bytes s → RowsReadable x.limits x.capacity x.count s
-  rows_readable b = rw same (store_readable s stored b)
+  pub rows_readable : RowsReadable x.limits x.capacity x.count s
+  rows_readable = rw same (store_readable s stored)
 
 -- What is known of an offer that is filed: a row is free, its place is among the rows that are left, and the new numbers do not wrap.
 pub record Filing (x : Numbers) (a : Scan) (o : Entry) (s : List ℕ) : Type 0 where
@@ -154,7 +149,7 @@ module _ (s : List ℕ) (b : Bytes s) (stored : is_store s ≡ true) (head : Hea
       pub pruned_few : a.pruned ≤ x.count
       pruned_few = rw same (meeting.pruned_few s stored b head p a scan_in)
 
-      module _ (room : head.payload_length ≤ max_word - x.held - x.let_go) (d : Offered)
+      module _ (room : head.payload_length ≤ max_word - x.held - x.let_go) (d : Result Offered Refusal)
           (decided : answer_of d ≡ answer_by false a.outdated a.repeat (eqb (x.count - a.pruned) x.capacity) a.pruned) where
         fits : held_in s + let_go_in s + head.payload_length ≤ max_word
         fits =
@@ -166,7 +161,7 @@ module _ (s : List ℕ) (b : Bytes s) (stored : is_store s ≡ true) (head : Hea
         answered = (rw same at decided) ∙ meeting.answer_is s stored b head p a scan_in fits
 
         -- 14
-        pub refused_so : (r : Refusal) → d ≡ offered.Refused r → Case (refused r) s
+        pub refused_so : (r : Refusal) → d ≡ Err r → Case (refused r) s
         refused_so r h = case (refused r) s (sym (ap answer_of h) ∙ answered) (as_found s b stored)
 
         -- not filed
@@ -175,14 +170,12 @@ module _ (s : List ℕ) (b : Bytes s) (stored : is_store s ≡ true) (head : Hea
           unfolding state_in
           let_go_lem = (rw same at written) ∙ let_go_put s b stored (let_go_in s + head.payload_length)
 
-          pub outdated_so : d ≡ offered.Outdated → Case outdated u
-          outdated_so h = case outdated u (sym (ap answer_of h) ∙ answered) let_go_lem
-
-          pub repeat_so : d ≡ offered.Repeat → Case repeated u
-          repeat_so h = case repeated u (sym (ap answer_of h) ∙ answered) let_go_lem
+          pub let_go_so : (o : Offered) → d ≡ Ok o → (o ≡ offered.Outdated) ⊎ (o ≡ offered.Repeat) → Case (answer_of (Ok o)) u
+          let_go_so o h (inl f) = rw f (case outdated u (sym (ap answer_of (h ∙ ap Ok f)) ∙ answered) let_go_lem)
+          let_go_so o h (inr f) = rw f (case repeated u (sym (ap answer_of (h ∙ ap Ok f)) ∙ answered) let_go_lem)
 
         -- filed
-        module _ (k : ℕ) (h : d ≡ offered.Taken k) where
+        module _ (k : ℕ) (h : d ≡ Ok (offered.Taken k)) where
           means : (a.outdated ≡ false) × (a.repeat ≡ false) × (eqb (x.count - a.pruned) x.capacity ≡ false) × (a.pruned ≡ k)
           means = taken_means a.outdated a.repeat (eqb (x.count - a.pruned) x.capacity) a.pruned k (sym decided ∙ ap answer_of h)
 

@@ -1,78 +1,78 @@
 // The parts of the test of a store. They are not open to a caller.
+#![tactic(auto, unfolding(store_form::specs::StoreTest::entries_fit, store_form::specs::StoreTest::rows_fit, store_form::specs::StoreTest::sizes_fit))]
 
-ghost use Rattle.std.specs.Prelude.{◌≡◌, ◌<◌, ◌≤◌};
+ghost use Rattle.std.specs.Prelude.{◌≡◌, ◌≤◌, false, IfNone, IfSome, true};
 ghost use Rattle.willow.specs.Limits.{Accepted, max_capacity};
 ghost use Rattle.sheet.specs.Rows.{Room};
 ghost use Rattle.store_form.specs.Stores.{store_shape};
-ghost use Rattle.store_form.specs.StoreTest.{is_store, rows_fit, sizes_fit};
+ghost use Rattle.store_form.specs.StoreTest.{entries_fit, is_store, rows_fit, sizes_fit};
 ghost use Rattle.store_rows.specs.EntryRows.{sizes_of};
+ghost use Rattle.store_rows.specs.HeldRows.{held_entries, MadeOf, RowsOf};
 
-use store_form::{
-    CAPACITY_AT, COUNT_AT, HELD_AT, LET_GO_AT, MCC_AT, MCL_AT, MPL_AT, STORE_FRONT, STORE_HEAD,
-};
-use store_passes::inner as passes;
-use willow::Limits;
+use sheet::front::COUNT_AT;
+use store_form::{HELD_AT, LET_GO_AT, STORE_FRONT};
+use store_passes::inner::{cells_fit, rows_ascend, rows_clear, sums_to};
+use store_rows::rows::StoreRows;
+use store_rows::sizes::StoreSizes;
 
-// The first n rows, and zeros in all others.
-fn rows_fit(s: &[u8], limits: Limits, capacity: usize, n: usize, held: u64) -> bool
-    requires { Accepted limits × (capacity ≤ max_capacity) × Room (store_shape (sizes_of limits capacity)) s.now × (n ≤ capacity) }
-    ensures { result ≡ rows_fit limits (store_shape (sizes_of limits capacity)) n held s.now }
+// The entries ascend, none prunes another, and their payload lengths are the held bytes.
+fn entries_fit(rows: StoreRows, held: u64) -> bool
+    ensures { result ≡ entries_fit held (held_entries rows.entry) }
 {
-    let size = 8 * (limits.mcc as usize + 1) + limits.mpl as usize;
-    let cells = STORE_FRONT + STORE_HEAD * capacity;
-    if passes::cells_fit(s, limits, capacity, n) {
-        if passes::rows_ascend(s, limits, capacity, n) {
-            if passes::rows_clear(s, limits, capacity, n) {
-                if passes::sums_to(s, limits, capacity, n, held) {
-                    let free = STORE_FRONT + STORE_HEAD * n;
-                    if number::is_zero(&s[free..cells]) {
-                        let from = cells + size * n;
-                        let end = cells + size * capacity;
-                        return number::is_zero(&s[from..end]);
-                    }
-                }
-            }
-        }
+    rows_ascend(rows) && rows_clear(rows) && sums_to(rows, held)
+}
+
+// The first n rows, if they and all others are those of a store.
+fn tested_rows<'a>(s: &'a [u8], sizes: StoreSizes, n: usize, held: u64) -> Option<StoreRows<'a>>
+    requires { Accepted sizes.limits × (sizes.capacity ≤ max_capacity) × Room (store_shape (sizes_of sizes.limits sizes.capacity)) s.now × (n ≤ sizes.capacity) }
+    ensures fit { IfSome result (λ r. (rows_fit sizes.limits (store_shape (sizes_of sizes.limits sizes.capacity)) n held s.now ≡ true) × MadeOf r s.now sizes n) }
+    ensures unfit { IfNone result (rows_fit sizes.limits (store_shape (sizes_of sizes.limits sizes.capacity)) n held s.now ≡ false) }
+{
+    if !cells_fit(s, sizes, n) {
+        return None;
     }
-    false
+    let rows = StoreRows {
+        bytes: s,
+        sizes,
+        count: n,
+    };
+    if !entries_fit(rows, held) {
+        return None;
+    }
+    if sizes.shape().unused_clear(s, n) {
+        Some(rows)
+    } else {
+        None
+    }
 }
 
 // Sizes within the bounds, no more rows in use than there are, and totals that do not pass 2^64 - 1 together.
-fn sizes_fit(limits: Limits, capacity: u64, n: u64, held: u64, let_go: u64) -> bool
-    ensures { result ≡ sizes_fit (sizes_of limits capacity) n held let_go }
+fn sizes_fit(sizes: StoreSizes, n: usize, held: u64, let_go: u64) -> bool
+    ensures { result ≡ sizes_fit (sizes_of sizes.limits sizes.capacity) n held let_go }
 {
-    if refusals::limits_accepted(limits) {
-        if refusals::capacity_accepted(capacity) {
-            if n <= capacity {
-                return let_go <= u64::MAX - held;
-            }
-        }
-    }
-    false
+    refusals::limits_accepted(sizes.limits)
+        && refusals::capacity_accepted(sizes.capacity as u64)
+        && n <= sizes.capacity
+        && let_go <= u64::MAX - held
 }
 
-// Whether the bytes begin with a store, whatever their length and content.
-pub fn is_store(s: &[u8]) -> bool
-    ensures { result ≡ is_store s.now }
+// The rows of the store with which the bytes begin, if they do, whatever their length and content.
+pub fn tested<'a>(s: &'a [u8]) -> Option<StoreRows<'a>>
+    ensures store { IfSome result (λ r. (is_store s.now ≡ true) × RowsOf r s.now) }
+    ensures no_store { IfNone result (is_store s.now ≡ false) }
 {
     if s.len() < STORE_FRONT {
-        return false;
+        return None;
     }
-    let limits = Limits {
-        mcl: number::read_u64(s, MCL_AT),
-        mcc: number::read_u64(s, MCC_AT),
-        mpl: number::read_u64(s, MPL_AT),
-    };
-    let capacity = number::read_u64(s, CAPACITY_AT);
-    let n = number::read_u64(s, COUNT_AT);
+    let sizes = StoreSizes::read(s);
+    let n = number::read_u64(s, COUNT_AT) as usize;
     let held = number::read_u64(s, HELD_AT);
     let let_go = number::read_u64(s, LET_GO_AT);
-    if sizes_fit(limits, capacity, n, held, let_go) {
-        let size = 8 * (limits.mcc as usize + 1) + limits.mpl as usize;
-        let length = STORE_FRONT + (STORE_HEAD + size) * capacity as usize;
-        if length <= s.len() {
-            return rows_fit(s, limits, capacity as usize, n as usize, held);
-        }
+    if !sizes_fit(sizes, n, held, let_go) {
+        return None;
     }
-    false
+    if s.len() < sizes.sheet_length() {
+        return None;
+    }
+    tested_rows(s, sizes, n, held)
 }

@@ -7,7 +7,7 @@ use mathlib.Core.List.{List, [], ◌∷◌}
 use mathlib.Core.Bool.{Bool, true, false, ◌||◌, not, cond, true≢false}
 use native.Mathlib.Omega.{arith}
 use borrow.Author.Tests.{not-true}
-use Rattle.willow.specs.declared.Order.TheVariants.{Equal}
+use Rattle.std.specs.declared.cmp.Ordering.TheVariants.{Equal}
 use Rattle.willow.specs.Demand3.{history, pruned, file_all, kept, lost, given, Stays, Goes, GivenBy, Within}
 use Rattle.willow.specs.Entries.{Entry, Prunes, PlaceBelow, prunes, same_entry, compare_places}
 use Rattle.willow.specs.Lists.{In, Ascending, Sum, any, filter}

@@ -1,5 +1,5 @@
 -- Areas and ranges that are known by what they include: the full ones, that of one subspace, and that of one path. (The full ranges of
--- numbers and of paths stand in `RangeParts` and `PathRangeParts` of crate range_law.)
+-- numbers and of paths stand in `RangeParts` of crate range_law.)
 use Rattle.std.specs.Prelude.{ℕ, ◌≡◌, ◌⊎◌, ◌↔◌, true}
 use Rattle.willow.specs.declared.AreaSubspace.{AreaSubspace}
 use Rattle.willow.specs.declared.AreaSubspace.TheVariants.{Id}

@@ -15,8 +15,8 @@ use borrow.Author.Tests.{eqb-true, eqb-false, eq-eqb}
 use Rattle.willow.specs.declared.AreaSubspace.{AreaSubspace}
 use Rattle.willow.specs.declared.AreaSubspace.TheVariants.{Any, Id}
 use Rattle.willow.specs.declared.Limits.{Limits}
-use Rattle.willow.specs.declared.Order.{Order}
-use Rattle.willow.specs.declared.Order.TheVariants.{Less, Equal}
+use Rattle.std.specs.declared.cmp.Ordering.{Ordering}
+use Rattle.std.specs.declared.cmp.Ordering.TheVariants.{Less, Equal}
 use Rattle.willow.specs.Areas.{Triplet, triplet_of, ValidTriplet, Area, SubspaceWord, ValidArea, InSubspace, InArea, AreaIncluded, IsAreaIntersection, PrunesSome, NotTwoIds, SubspaceBelow, AreaBelow, includes_subspace, includes_area_subspace, subspace_intersection, compare_subspaces, includes_triplet, includes_area, subspaces_agree, almost_includes_area, longer_path, area_of, area_intersection, area_prunable, area_key, compare_areas, with_any_subspace, AreaLaws}
 use Rattle.willow.specs.Entries.{Entry, digest_length, ValidEntry, Older}
 use Rattle.willow.specs.Limits.{max_word}
@@ -427,7 +427,7 @@ prunable_only_if L a t v w n e = go h.1.1
 area_by_key : (a b : Area) → area_key a ≡ area_key b → a ≡ b
 area_by_key a b h = λ i. record { subspace = (h i).0; path = (h i).1.0; times = (h i).1.1 }
 
-abbrev compare_rest : Path × Range ℕ → Path × Range ℕ → Order
+abbrev compare_rest : Path × Range ℕ → Path × Range ℕ → Ordering
 compare_rest = compare_pairs compare_paths (compare_ranges compare_numbers)
 
 times_total : Total (compare_ranges compare_numbers)

@@ -11,7 +11,7 @@ use native.Mathlib.Omega.{arith}
 use lib.Dec.{eqb, ltb}
 use lib.ListN.{length}
 use borrow.Author.Tests.{not-true, eqb-true, eqb-false, ltb-false}
-use Rattle.willow.specs.declared.Order.TheVariants.{Less, Equal}
+use Rattle.std.specs.declared.cmp.Ordering.TheVariants.{Less, Equal}
 use Rattle.willow.specs.declared.Refusal.{Refusal}
 use Rattle.willow.specs.declared.Refusal.TheVariants.{WrongNamespace}
 use Rattle.willow.specs.Demand3.{with_entry, grown, history, pruned, file_all, kept, lost, given, Stays, Goes, GivenBy, ByTable, Answered, CallPassed, Within, Demand3, Demand3OnStates}

@@ -7,8 +7,8 @@ use mathlib.Core.List.{List}
 use mathlib.Core.Bool.{true, false, ◌&&◌}
 use lib.Dec.{eqb}
 use borrow.Author.Tests.{eqb-true, eq-eqb}
-use Rattle.willow.specs.declared.Order.{Order}
-use Rattle.willow.specs.declared.Order.TheVariants.{Less, Equal}
+use Rattle.std.specs.declared.cmp.Ordering.{Ordering}
+use Rattle.std.specs.declared.cmp.Ordering.TheVariants.{Less, Equal}
 use Rattle.willow.specs.Entries.{Entry, age, Older, Prunes, place, PlaceBelow, EntryBelow, compare_ages, is_newer, prunes, compare_places, entry_key, compare_entries, same_entry, EntryLaws}
 use Rattle.willow.specs.Orders.{is_equal, Total, Decides, compare_numbers, compare_lists, compare_pairs, ListBelow, PairBelow}
 use Rattle.willow.specs.Paths.{Path, PathBelow, compare_paths, is_prefix_of}
@@ -17,7 +17,7 @@ use Rattle.willow.proofs.OrderLaws.{is_greater_true, is_equal_true, numbers_tota
 use Rattle.willow.proofs.PathLaws.{paths_total, paths_decided, prefix_means, prefix_transitive, prefix_self}
 
 -- AGES: timestamp, then digest, then payload length.
-abbrev compare_age : ℕ × (List ℕ × ℕ) → ℕ × (List ℕ × ℕ) → Order
+abbrev compare_age : ℕ × (List ℕ × ℕ) → ℕ × (List ℕ × ℕ) → Ordering
 compare_age = compare_pairs compare_numbers (compare_pairs (compare_lists compare_numbers) compare_numbers)
 
 abbrev AgeBelow : ℕ × (List ℕ × ℕ) → ℕ × (List ℕ × ℕ) → Type 0
@@ -77,7 +77,7 @@ entry_by_key a b e = λ i. record {
   digest = (e i).1.1.1.0;
 }
 
-abbrev compare_within : (ℕ × Path) × (ℕ × (List ℕ × ℕ)) → (ℕ × Path) × (ℕ × (List ℕ × ℕ)) → Order
+abbrev compare_within : (ℕ × Path) × (ℕ × (List ℕ × ℕ)) → (ℕ × Path) × (ℕ × (List ℕ × ℕ)) → Ordering
 compare_within = compare_pairs (compare_pairs compare_numbers compare_paths) compare_age
 
 within_total : Total compare_within

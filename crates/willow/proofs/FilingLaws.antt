@@ -7,8 +7,8 @@ use mathlib.Core.List.{List, [], ◌∷◌, ◌++◌}
 use mathlib.Core.Bool.{Bool, true, false, not, cond}
 use native.Mathlib.Omega.{arith}
 use lib.ListN.{length}
-use Rattle.willow.specs.declared.Order.{Order}
-use Rattle.willow.specs.declared.Order.TheVariants.{Less, Equal, Greater}
+use Rattle.std.specs.declared.cmp.Ordering.{Ordering}
+use Rattle.std.specs.declared.cmp.Ordering.TheVariants.{Less, Equal, Greater}
 use Rattle.willow.specs.Demand3.{file_all}
 use Rattle.willow.specs.Entries.{Entry, PlaceBelow, place, compare_places}
 use Rattle.willow.specs.Lists.{In, Ascending, filter}
@@ -43,7 +43,7 @@ pub file_in : (e : Entry) (l : List Entry) (x : Entry) → In x (file e l) → (
 file_in e [] x i = i
 file_in e (y ∷ ys) x i = go (compare_places e y) i (file_in e ys x)
   where
-    go : (o : Order) → In x (put_before o e y ys (file e ys)) → (In x (file e ys) → (x ≡ e) ⊎ In x ys) → (x ≡ e) ⊎ In x (y ∷ ys)
+    go : (o : Ordering) → In x (put_before o e y ys (file e ys)) → (In x (file e ys) → (x ≡ e) ⊎ In x ys) → (x ≡ e) ⊎ In x (y ∷ ys)
     go Less j ih = j
     go Equal (inl j) ih = inl j
     go Equal (inr j) ih = inr (inr j)
@@ -54,7 +54,7 @@ pub in_file_new : (e : Entry) (l : List Entry) → In e (file e l)
 in_file_new e [] = inl refl
 in_file_new e (y ∷ ys) = go (compare_places e y) (in_file_new e ys)
   where
-    go : (o : Order) → In e (file e ys) → In e (put_before o e y ys (file e ys))
+    go : (o : Ordering) → In e (file e ys) → In e (put_before o e y ys (file e ys))
     go Less ih = inl refl
     go Equal ih = inl refl
     go Greater ih = inr ih
@@ -63,7 +63,7 @@ pub in_file_old : (e : Entry) (l : List Entry) (x : Entry) → In x l → (compa
 in_file_old e [] x i h = absurd i
 in_file_old e (y ∷ ys) x i h = go (compare_places e y) refl i (λ j. in_file_old e ys x j h)
   where
-    go : (o : Order) → compare_places e y ≡ o → (x ≡ y) ⊎ In x ys → (In x ys → In x (file e ys)) → In x (put_before o e y ys (file e ys))
+    go : (o : Ordering) → compare_places e y ≡ o → (x ≡ y) ⊎ In x ys → (In x ys → In x (file e ys)) → In x (put_before o e y ys (file e ys))
     go Less k j ih = inr j
     go Equal k (inl j) ih = absurd (h (rw j k))
     go Equal k (inr j) ih = inr j
@@ -74,7 +74,7 @@ pub file_sorted : (e : Entry) (l : List Entry) → Sorted l → Sorted (file e l
 file_sorted e [] s = (λ y i. absurd i, tt)
 file_sorted e (x ∷ xs) s = go (compare_places e x) refl (file_sorted e xs s.1)
   where
-    go : (o : Order) → compare_places e x ≡ o → Sorted (file e xs) → Sorted (put_before o e x xs (file e xs))
+    go : (o : Ordering) → compare_places e x ≡ o → Sorted (file e xs) → Sorted (put_before o e x xs (file e xs))
     go Less k ih = (low, s)
       where
         low : (y : Entry) → (y ≡ x) ⊎ In y xs → compare_places e y ≡ Less
@@ -91,7 +91,7 @@ pub file_length : (e : Entry) (l : List Entry) → length (file e l) ≤ suc (le
 file_length e [] = omega arith
 file_length e (x ∷ xs) = go (compare_places e x) (file_length e xs)
   where
-    go : (o : Order) → length (file e xs) ≤ suc (length xs) → length (put_before o e x xs (file e xs)) ≤ suc (suc (length xs))
+    go : (o : Ordering) → length (file e xs) ≤ suc (length xs) → length (put_before o e x xs (file e xs)) ≤ suc (suc (length xs))
     go Less h = omega arith
     go Equal h = omega arith
     go Greater h = omega arith
@@ -101,7 +101,7 @@ pub file_payloads : (e : Entry) (l : List Entry) → ((x : Entry) → In x l →
 file_payloads e [] h = refl
 file_payloads e (x ∷ xs) h = go (compare_places e x) refl (file_payloads e xs (λ y i. h y (inr i)))
   where
-    go : (o : Order) → compare_places e x ≡ o → payloads (file e xs) ≡ e.payload_length + payloads xs
+    go : (o : Ordering) → compare_places e x ≡ o → payloads (file e xs) ≡ e.payload_length + payloads xs
         → payloads (put_before o e x xs (file e xs)) ≡ e.payload_length + (x.payload_length + payloads xs)
     go Less k ih = refl
     go Equal k ih = absurd (h x (inl refl) k)
@@ -156,7 +156,7 @@ module _ (U : Entry → Type 0) (one : (x y : Entry) → U x → U y → compare
   pub in_file : (e : Entry) (l : List Entry) → U e → ((x : Entry) → In x l → U x) → (x : Entry) → In x l → In x (file e l)
   in_file e l u v x i = go (compare_places e x) refl
     where
-      go : (o : Order) → compare_places e x ≡ o → In x (file e l)
+      go : (o : Ordering) → compare_places e x ≡ o → In x (file e l)
       go Less k = in_file_old e l x i (λ q. less≢equal (sym k ∙ q))
       go Equal k = rw (sym (one e x u (v x i) k)) (in_file_new e l)
       go Greater k = in_file_old e l x i (λ q. equal≢greater (sym q ∙ k))

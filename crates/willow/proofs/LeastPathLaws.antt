@@ -12,8 +12,8 @@ use lib.Dec.{ltb}
 use lib.ListN.{length, replicate, length-append, length-replicate}
 use borrow.Author.Tests.{ltb-true, ltb-false, lt-ltb}
 use Rattle.willow.specs.declared.Limits.{Limits}
-use Rattle.willow.specs.declared.Order.{Order}
-use Rattle.willow.specs.declared.Order.TheVariants.{Less, Equal}
+use Rattle.std.specs.declared.cmp.Ordering.{Ordering}
+use Rattle.std.specs.declared.cmp.Ordering.TheVariants.{Less, Equal}
 use Rattle.willow.specs.LeastPaths.{Least, GreaterNotPrefixed, GreaterPath, keep_or_raise, raise_last, raise_byte, raise_component, lengthen_or_raise, next_greater, successor, filled, greatest, LeastPaths}
 use Rattle.willow.specs.Lists.{All}
 use Rattle.willow.specs.Numbers.{Bytes}
@@ -24,7 +24,7 @@ use Rattle.willow.proofs.OrderLaws.{less≢equal, less≢greater, equal≢greate
 use Rattle.willow.proofs.PathLaws.{components_total, paths_total, paths_decided, snoc_above, snoc_least, above_short, prefix_means, prefix_fails, prefix_self, prefix_at_most, prefix_block}
 
 -- THE LEAST BY A COMPARISON, for any order: none exactly if nothing has P; else what has P and is above nothing that has P.
-module _ {A : Type 0} (compare : A → A → Order) where
+module _ {A : Type 0} (compare : A → A → Ordering) where
   abbrev pub LeastBy : (A → Type 0) → Option A → Type 0
   LeastBy P none = (r : A) → P r → ⊥
   LeastBy P (some q) = P q × ((r : A) → P r → compare r q ≡ Less → ⊥)
@@ -45,7 +45,7 @@ Each pass Ok s [] = Unit {0}
 Each pass Ok s (x ∷ xs) = Ok s x × Each pass Ok (pass s x) xs
 
 -- THE SEARCH FROM THE BACK finds the least list past l: above l, and not prefixed by l.
-module _ {A S : Type 0} (pass : S → A → S) (compare : A → A → Order) (t : Total compare) (Ok : S → A → Type 0) where
+module _ {A S : Type 0} (pass : S → A → S) (compare : A → A → Ordering) (t : Total compare) (Ok : S → A → Type 0) where
   abbrev Past : S → List A → List A → Type 0
   Past s l r = Each pass Ok s r × (compare_lists compare l r ≡ Less) × (is_prefix compare l r ≡ false)
 

@@ -8,8 +8,8 @@ use mathlib.Core.Bool.{Bool, true, false, cond, false≢true}
 use native.Mathlib.Omega.{arith}
 use lib.Dec.{ltb, eqb}
 use borrow.Author.Tests.{ltb-true, ltb-false, eqb-true, eqb-false, lt-ltb, le-ltb, eq-eqb, ne_eqb}
-use Rattle.willow.specs.declared.Order.{Order}
-use Rattle.willow.specs.declared.Order.TheVariants.{Less, Equal, Greater}
+use Rattle.std.specs.declared.cmp.Ordering.{Ordering}
+use Rattle.std.specs.declared.cmp.Ordering.TheVariants.{Less, Equal, Greater}
 use Rattle.willow.specs.Orders.{is_less, is_equal, is_greater, reverse, then, Total, Decides, AtMost, compare_numbers, compare_pairs, PairBelow, compare_lists, ListBelow}
 
 -- THE THREE ANSWERS differ.
@@ -22,39 +22,39 @@ less≢greater e = let z : ◌≡◌ {A = ℕ} 0 1 = cc in omega arith
 pub equal≢greater : Equal ≡ Greater → ⊥
 equal≢greater e = let z : ◌≡◌ {A = ℕ} 0 1 = cc in omega arith
 
-pub is_less_true : (o : Order) → is_less o ≡ true → o ≡ Less
+pub is_less_true : (o : Ordering) → is_less o ≡ true → o ≡ Less
 is_less_true Less h = refl
 is_less_true Equal h = absurd (false≢true h)
 is_less_true Greater h = absurd (false≢true h)
 
-pub is_equal_true : (o : Order) → is_equal o ≡ true → o ≡ Equal
+pub is_equal_true : (o : Ordering) → is_equal o ≡ true → o ≡ Equal
 is_equal_true Less h = absurd (false≢true h)
 is_equal_true Equal h = refl
 is_equal_true Greater h = absurd (false≢true h)
 
-pub is_greater_true : (o : Order) → is_greater o ≡ true → o ≡ Greater
+pub is_greater_true : (o : Ordering) → is_greater o ≡ true → o ≡ Greater
 is_greater_true Less h = absurd (false≢true h)
 is_greater_true Equal h = absurd (false≢true h)
 is_greater_true Greater h = refl
 
 -- What `then` says.
-pub reverse_then : (a b : Order) → reverse (then a b) ≡ then (reverse a) (reverse b)
+pub reverse_then : (a b : Ordering) → reverse (then a b) ≡ then (reverse a) (reverse b)
 reverse_then Less b = refl
 reverse_then Equal b = refl
 reverse_then Greater b = refl
 
-pub then_equal : (a b : Order) → then a b ≡ Equal → (a ≡ Equal) × (b ≡ Equal)
+pub then_equal : (a b : Ordering) → then a b ≡ Equal → (a ≡ Equal) × (b ≡ Equal)
 then_equal Less b e = (e, cc)
 then_equal Equal b e = (refl, e)
 then_equal Greater b e = (e, cc)
 
-pub then_less : (a b : Order) → then a b ≡ Less → (a ≡ Less) ⊎ ((a ≡ Equal) × (b ≡ Less))
+pub then_less : (a b : Ordering) → then a b ≡ Less → (a ≡ Less) ⊎ ((a ≡ Equal) × (b ≡ Less))
 then_less Less b e = inl refl
 then_less Equal b e = inr (refl, e)
 then_less Greater b e = inl e
 
 -- FROM A TOTAL ORDER.
-module _ {A : Type 0} (compare : A → A → Order) (t : Total compare) where
+module _ {A : Type 0} (compare : A → A → Ordering) (t : Total compare) where
   pub less_flip : (x y : A) → compare x y ≡ Less → compare y x ≡ Greater
   less_flip x y e = t.flip x y ∙ ap reverse e
 
@@ -74,13 +74,13 @@ module _ {A : Type 0} (compare : A → A → Order) (t : Total compare) where
   pub not_greater : (x y : A) → (compare x y ≡ Greater → ⊥) → (compare x y ≡ Less) ⊎ (x ≡ y)
   not_greater x y n = go (compare x y) refl
     where
-      go : (o : Order) → compare x y ≡ o → (compare x y ≡ Less) ⊎ (x ≡ y)
+      go : (o : Ordering) → compare x y ≡ o → (compare x y ≡ Less) ⊎ (x ≡ y)
       go Less e = inl e
       go Equal e = inr (t.same x y e)
       go Greater e = absurd (n e)
 
 -- A comparison that is total decides what its `Less` means.
-pub decides : {A : Type 0} (compare : A → A → Order) (Below : A → A → Type 0) → Total compare
+pub decides : {A : Type 0} (compare : A → A → Ordering) (Below : A → A → Type 0) → Total compare
     → ((x y : A) → (compare x y ≡ Less) ↔ Below x y) → Decides compare Below
 decides compare Below t l = record {
   less = l;
@@ -89,7 +89,7 @@ decides compare Below t l = record {
 }
 
 -- FROM A COMPARISON THAT DECIDES.
-module _ {A : Type 0} (compare : A → A → Order) (Below : A → A → Type 0) (d : Decides compare Below) where
+module _ {A : Type 0} (compare : A → A → Ordering) (Below : A → A → Type 0) (d : Decides compare Below) where
   -- at most, as a test that is not greater
   pub at_most_means : (x y : A) → AtMost Below x y ↔ (compare x y ≡ Greater → ⊥)
   at_most_means x y = (to, from (compare x y) refl)
@@ -98,7 +98,7 @@ module _ {A : Type 0} (compare : A → A → Order) (Below : A → A → Type 0)
       to (inl e) g = equal≢greater (sym ((d.equal x y).1 e) ∙ g)
       to (inr b) g = less≢greater (sym ((d.less x y).1 b) ∙ g)
 
-      from : (o : Order) → compare x y ≡ o → (compare x y ≡ Greater → ⊥) → AtMost Below x y
+      from : (o : Ordering) → compare x y ≡ o → (compare x y ≡ Greater → ⊥) → AtMost Below x y
       from Less e n = inr ((d.less x y).0 e)
       from Equal e n = inl ((d.equal x y).0 e)
       from Greater e n = absurd (n e)
@@ -113,7 +113,7 @@ module _ {A : Type 0} (compare : A → A → Order) (Below : A → A → Type 0)
   pub below_cases : (x y : A) → Below x y ⊎ ((x ≡ y) ⊎ Below y x)
   below_cases x y = go (compare x y) refl
     where
-      go : (o : Order) → compare x y ≡ o → Below x y ⊎ ((x ≡ y) ⊎ Below y x)
+      go : (o : Ordering) → compare x y ≡ o → Below x y ⊎ ((x ≡ y) ⊎ Below y x)
       go Less e = inl ((d.less x y).0 e)
       go Equal e = inr (inl ((d.equal x y).0 e))
       go Greater e = inr (inr ((d.greater x y).0 e))
@@ -202,7 +202,7 @@ at_most_number m n = (to, λ h. from (ltb m n) refl h)
     from false e h = let k = ltb-false m n e in inl (omega arith)
 
 -- PAIRS.
-module _ {A B : Type 0} (c : A → A → Order) (d : B → B → Order) (s : Total c) (t : Total d) where
+module _ {A B : Type 0} (c : A → A → Ordering) (d : B → B → Ordering) (s : Total c) (t : Total d) where
   pair_same : (x y : A × B) → compare_pairs c d x y ≡ Equal → x ≡ y
   pair_same x y e =
       let b = then_equal (c x.0 y.0) (d x.1 y.1) e in
@@ -245,7 +245,7 @@ module _ {A B : Type 0} (c : A → A → Order) (d : B → B → Order) (s : Tot
         from x y (inr a) = rw (equal_by c s x.0 y.0 a.0) ((q.less x.1 y.1).1 a.1)
 
 -- BY A KEY: values that are equal if their keys are.
-module _ {A K : Type 0} (key : A → K) (one : (x y : A) → key x ≡ key y → x ≡ y) (c : K → K → Order) (t : Total c) where
+module _ {A K : Type 0} (key : A → K) (one : (x y : A) → key x ≡ key y → x ≡ y) (c : K → K → Ordering) (t : Total c) where
   pub keyed_total : Total (λ x y. c (key x) (key y))
   keyed_total = record {
     same = λ x y e. one x y (t.same (key x) (key y) e);
@@ -259,7 +259,7 @@ module _ {A K : Type 0} (key : A → K) (one : (x y : A) → key x ≡ key y →
       decides (λ x y. c (key x) (key y)) (λ x y. Below (key x) (key y)) keyed_total (λ x y. d.less (key x) (key y))
 
 -- LISTS.
-module _ {A : Type 0} (compare : A → A → Order) (t : Total compare) where
+module _ {A : Type 0} (compare : A → A → Ordering) (t : Total compare) where
   list_same : (l m : List A) → compare_lists compare l m ≡ Equal → l ≡ m
   list_same [] [] e = refl
   list_same [] (y ∷ ys) e = absurd (less≢equal e)

@@ -8,8 +8,8 @@ use mathlib.Core.Bool.{Bool, true, false, ◌&&◌, cond, true≢false, false≢
 use native.Mathlib.Omega.{arith}
 use lib.ListN.{length, take, drop, length-append, take-append-drop}
 use lib.Seq.{take_at, length-take-le}
-use Rattle.willow.specs.declared.Order.{Order}
-use Rattle.willow.specs.declared.Order.TheVariants.{Less, Equal, Greater}
+use Rattle.std.specs.declared.cmp.Ordering.{Ordering}
+use Rattle.std.specs.declared.cmp.Ordering.TheVariants.{Less, Equal, Greater}
 use Rattle.willow.specs.Orders.{is_equal, reverse, then, Total, Decides, AtMost, compare_numbers, compare_lists}
 use Rattle.willow.specs.Paths.{Path, compare_components, compare_paths, ComponentBelow, PathBelow, PathOrder, Prefix, is_prefix, is_prefix_of, Related, is_related, common_count, common_prefix, Common, PathPrefix}
 use Rattle.willow.proofs.Bools.{both_true, either_true, true_left, true_right, not_true_false, decided_false}
@@ -32,10 +32,10 @@ pub path_order : PathOrder
 path_order = record { total = paths_total; means = paths_decided }
 
 -- PREFIXES OF LISTS, as tests.
-equal_and : (o : Order) (b : Bool) → is_equal o && b ≡ true → (o ≡ Equal) × (b ≡ true)
+equal_and : (o : Ordering) (b : Bool) → is_equal o && b ≡ true → (o ≡ Equal) × (b ≡ true)
 equal_and o b h = let r = both_true (is_equal o) b h in (is_equal_true o r.0, r.1)
 
-module _ {A : Type 0} (compare : A → A → Order) (t : Total compare) where
+module _ {A : Type 0} (compare : A → A → Ordering) (t : Total compare) where
   -- l prefixes r exactly if r is l and something behind it
   pub prefix_of_lem : (l q : List A) → is_prefix compare l (l ++ q) ≡ true
   prefix_of_lem [] q = refl
@@ -202,7 +202,7 @@ common_means (c ∷ cs) (d ∷ ds) = go (compare_components c d) refl (common_me
         most zero a b e = omega arith
         most (suc j) a b e = let f : c ≡ d = cc in absurd (n f)
 
-    go : (o : Order) → compare_components c d ≡ o → Common cs ds (common_count cs ds)
+    go : (o : Ordering) → compare_components c d ≡ o → Common cs ds (common_count cs ds)
         → Common (c ∷ cs) (d ∷ ds) (cond (is_equal o) (suc (common_count cs ds)) 0)
     go Less e k = none (λ h. less≢equal (sym e ∙ equal_by compare_components components_total c d h))
     go Equal e k = step (common_count cs ds) (components_total.same c d e) k

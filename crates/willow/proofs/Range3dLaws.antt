@@ -11,7 +11,7 @@ use borrow.Author.Tests.{ltb-false}
 use Rattle.willow.specs.declared.AreaSubspace.{AreaSubspace}
 use Rattle.willow.specs.declared.AreaSubspace.TheVariants.{Any, Id}
 use Rattle.willow.specs.declared.Limits.{Limits}
-use Rattle.willow.specs.declared.Order.{Order}
+use Rattle.std.specs.declared.cmp.Ordering.{Ordering}
 use Rattle.willow.specs.Areas.{Triplet, ValidTriplet, Area, SubspaceWord, ValidArea, InSubspace, InArea, PrunesSome}
 use Rattle.willow.specs.LeastPaths.{next_greater}
 use Rattle.willow.specs.Limits.{max_word}
@@ -267,7 +267,7 @@ area_triplets L a v t w =
 range3d_by_key : (r s : Range3d) → range3d_key r ≡ range3d_key s → r ≡ s
 range3d_by_key r s h = λ i. record { subspaces = (h i).0; paths = (h i).1.0; times = (h i).1.1 }
 
-abbrev compare_rest : Range Path × Range ℕ → Range Path × Range ℕ → Order
+abbrev compare_rest : Range Path × Range ℕ → Range Path × Range ℕ → Ordering
 compare_rest = compare_pairs (compare_ranges compare_paths) (compare_ranges compare_numbers)
 
 numbers_ordered : Total (compare_ranges compare_numbers)

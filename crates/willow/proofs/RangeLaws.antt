@@ -8,8 +8,8 @@ use mathlib.Core.Option.{none, some}
 use mathlib.Core.Bool.{Bool, true, false, not, cond, true≢false, false≢true}
 use native.Mathlib.Omega.{arith}
 use Rattle.willow.specs.declared.Limits.{Limits}
-use Rattle.willow.specs.declared.Order.{Order}
-use Rattle.willow.specs.declared.Order.TheVariants.{Less, Equal, Greater}
+use Rattle.std.specs.declared.cmp.Ordering.{Ordering}
+use Rattle.std.specs.declared.cmp.Ordering.TheVariants.{Less, Equal, Greater}
 use Rattle.willow.specs.Limits.{max_word}
 use Rattle.willow.specs.Orders.{is_less, is_greater, reverse, Total, Decides, AtMost, compare_numbers, compare_pairs, PairBelow}
 use Rattle.willow.specs.Paths.{Valid, PathBelow, compare_paths}
@@ -33,12 +33,12 @@ none_if : {B : Type 0} (b : Bool) (x : B) → (cond b (some x) none ≡ none) �
 none_if true x = (λ h. absurd (some≢none x h), λ h. absurd (true≢false h))
 none_if false x = (λ h. refl, λ h. refl)
 
-module _ {A : Type 0} (compare : A → A → Order) (Below : A → A → Type 0) (d : Decides compare Below) where
+module _ {A : Type 0} (compare : A → A → Ordering) (Below : A → A → Type 0) (d : Decides compare Below) where
   -- not greater: at most
   pub not_greater_means : (x y : A) → (not (is_greater (compare x y)) ≡ true) ↔ AtMost Below x y
   not_greater_means x y = go (compare x y) refl
     where
-      go : (o : Order) → compare x y ≡ o → (not (is_greater o) ≡ true) ↔ AtMost Below x y
+      go : (o : Ordering) → compare x y ≡ o → (not (is_greater o) ≡ true) ↔ AtMost Below x y
       go Less e = (λ h. inr ((d.less x y).0 e), λ h. refl)
       go Equal e = (λ h. inl ((d.equal x y).0 e), λ h. refl)
       go Greater e = (λ h. absurd (false≢true h), λ h. absurd ((at_most_means compare Below d x y).0 h e))
@@ -51,7 +51,7 @@ module _ {A : Type 0} (compare : A → A → Order) (Below : A → A → Type 0)
       not_below e (inl h) = less≢equal (sym e ∙ (d.equal x y).1 (sym h))
       not_below e (inr h) = less≢greater (sym e ∙ (d.greater x y).1 h)
 
-      go : (o : Order) → compare x y ≡ o → (not (is_less o) ≡ true) ↔ AtMost Below y x
+      go : (o : Ordering) → compare x y ≡ o → (not (is_less o) ≡ true) ↔ AtMost Below y x
       go Less e = (λ h. absurd (false≢true h), λ h. absurd (not_below e h))
       go Equal e = (λ h. inl (sym ((d.equal x y).0 e)), λ h. refl)
       go Greater e = (λ h. inr ((d.greater x y).0 e), λ h. refl)
@@ -63,7 +63,7 @@ module _ {A : Type 0} (compare : A → A → Order) (Below : A → A → Type 0)
   greater_means x y = (λ h. (d.greater x y).0 (is_greater_true (compare x y) h), λ b. ap is_greater ((d.greater x y).1 b))
 
 -- ENDS.
-module _ {A : Type 0} (compare : A → A → Order) (t : Total compare) where
+module _ {A : Type 0} (compare : A → A → Ordering) (t : Total compare) where
   end_same : (e f : End A) → compare_ends compare e f ≡ Equal → e ≡ f
   end_same (closed a) (closed b) h = ap closed (t.same a b h)
   end_same (closed a) endless h = absurd (less≢equal h)
@@ -101,7 +101,7 @@ module _ {A : Type 0} (compare : A → A → Order) (t : Total compare) where
   pub ranges_total : Total (compare_ranges compare)
   ranges_total = keyed_total bounds range_by_bounds (compare_pairs compare (compare_ends compare)) bounds_total
 
-module _ {A : Type 0} (compare : A → A → Order) (Below : A → A → Type 0) (t : Total compare) (d : Decides compare Below) where
+module _ {A : Type 0} (compare : A → A → Ordering) (Below : A → A → Type 0) (t : Total compare) (d : Decides compare Below) where
   pub ends_decided : Decides (compare_ends compare) (EndBelow Below)
   ends_decided = decides (compare_ends compare) (EndBelow Below) (ends_total compare t) less
     where
@@ -181,7 +181,7 @@ module _ {A : Type 0} (compare : A → A → Order) (Below : A → A → Type 0)
   later_means : (a b x : A) → AtMost Below (later_start compare a b) x ↔ (AtMost Below a x × AtMost Below b x)
   later_means a b x = go (compare a b) refl
     where
-      go : (o : Order) → compare a b ≡ o → AtMost Below (cond (is_greater o) a b) x ↔ (AtMost Below a x × AtMost Below b x)
+      go : (o : Ordering) → compare a b ≡ o → AtMost Below (cond (is_greater o) a b) x ↔ (AtMost Below a x × AtMost Below b x)
       go Less e = (λ h. (at_most_transitive compare Below d t a b x (inr ((d.less a b).0 e)) h, h), λ h. h.1)
       go Equal e = (λ h. (rw ((d.equal a b).0 e) h, h), λ h. h.1)
       go Greater e = (λ h. (h, at_most_transitive compare Below d t b a x (inr ((d.greater a b).0 e)) h), λ h. h.0)
@@ -189,7 +189,7 @@ module _ {A : Type 0} (compare : A → A → Order) (Below : A → A → Type 0)
   sooner_means : (e f : End A) (x : A) → BeforeEnd Below x (sooner_end compare e f) ↔ (BeforeEnd Below x e × BeforeEnd Below x f)
   sooner_means e f x = go (compare_ends compare e f) refl
     where
-      go : (o : Order) → compare_ends compare e f ≡ o → BeforeEnd Below x (cond (is_less o) e f) ↔ (BeforeEnd Below x e × BeforeEnd Below x f)
+      go : (o : Ordering) → compare_ends compare e f ≡ o → BeforeEnd Below x (cond (is_less o) e f) ↔ (BeforeEnd Below x e × BeforeEnd Below x f)
       go Less k = (λ h. (h, before_later x e f h (inr ((ends_decided.less e f).0 k))), λ h. h.0)
       go Equal k = (λ h. (before_later x f e h (inl (sym ((ends_decided.equal e f).0 k))), h), λ h. h.1)
       go Greater k = (λ h. (before_later x f e h (inr ((ends_decided.greater e f).0 k)), h), λ h. h.1)

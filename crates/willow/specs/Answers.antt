@@ -1,42 +1,48 @@
 -- How calls answer: refusals in the order of their tests, questions on lent paths, and answers written into a lent buffer.
-use Rattle.std.specs.Prelude.{ℕ, ◌≡◌, List, ◌++◌, Bool, true, false, cond, leb, length, take, drop}
+use Rattle.std.specs.Prelude.{ℕ, ◌≡◌, List, ◌++◌, Bool, true, false, cond, leb, length, take, drop, ⊤}
 use Rattle.std.proofs.Math.Option.{Option, none, some}
-use Rattle.willow.specs.declared.Asked.{Asked}
-use Rattle.willow.specs.declared.Asked.TheVariants as asked
-use Rattle.willow.specs.declared.Compared.{Compared}
-use Rattle.willow.specs.declared.Compared.TheVariants as compared
-use Rattle.willow.specs.declared.Counted.{Counted}
-use Rattle.willow.specs.declared.Counted.TheVariants as counted
+use Rattle.std.specs.Prelude as code
 use Rattle.willow.specs.declared.Limits.{Limits}
-use Rattle.willow.specs.declared.Order.{Order}
 use Rattle.willow.specs.declared.Refusal.{Refusal}
 use Rattle.willow.specs.declared.Refusal.TheVariants.{BadLimits, BadPath, OutTooSmall}
-use Rattle.willow.specs.declared.Tested.{Tested}
-use Rattle.willow.specs.declared.Tested.TheVariants as tested
 use Rattle.willow.specs.Limits.{Accepted, accepted_limits, accepted_capacity}
 use Rattle.willow.specs.Numbers.{Bytes}
 use Rattle.willow.specs.Packed.{pack, unpack, lent, Lent}
 use Rattle.willow.specs.Paths.{Path}
 use Rattle.willow.specs.Refusals.{Outcome, refused, absent, value}
 
--- WHAT THE CASES OF THE SHARED ANSWERS MEAN.
-abbrev pub tested_refusal : Tested → Option Refusal
-tested_refusal (tested.Refused r) = some r
-tested_refusal tested.Fine = none
+-- WHAT A CALL'S ANSWER MEANS. `Err` is a refusal; in `Ok` stands the value, or an option of one where there may be none.
+abbrev pub refusal_of : code.Result ⊤ Refusal → Option Refusal
+refusal_of (code.Err r) = some r
+refusal_of (code.Ok _) = none
 
-abbrev pub asked_outcome : Asked → Outcome Bool
-asked_outcome (asked.Refused r) = refused r
-asked_outcome asked.No = value false
-asked_outcome asked.Yes = value true
+abbrev pub outcome : {A : Type 0} → code.Result A Refusal → Outcome A
+outcome (code.Err r) = refused r
+outcome (code.Ok x) = value x
 
-abbrev pub compared_outcome : Compared → Outcome Order
-compared_outcome (compared.Refused r) = refused r
-compared_outcome (compared.Is o) = value o
+abbrev pub optional_outcome : {A : Type 0} → code.Result (code.Option A) Refusal → Outcome A
+optional_outcome (code.Err r) = refused r
+optional_outcome (code.Ok code.None) = absent
+optional_outcome (code.Ok (code.Some x)) = value x
 
-abbrev pub counted_outcome : Counted → Outcome ℕ
-counted_outcome (counted.Refused r) = refused r
-counted_outcome counted.Nothing = absent
-counted_outcome (counted.Count n) = value n
+-- The same where a value of the code stands for one of the theory; and of a value that there may not be.
+abbrev pub outcome_by : {A B : Type 0} → (A → B) → code.Result A Refusal → Outcome B
+outcome_by f (code.Err r) = refused r
+outcome_by f (code.Ok x) = value (f x)
+
+abbrev pub optional_outcome_by : {A B : Type 0} → (A → B) → code.Result (code.Option A) Refusal → Outcome B
+optional_outcome_by f (code.Err r) = refused r
+optional_outcome_by f (code.Ok code.None) = absent
+optional_outcome_by f (code.Ok (code.Some x)) = value (f x)
+
+abbrev pub if_any : {A B : Type 0} → (A → B) → code.Option A → Option B
+if_any f code.None = none
+if_any f (code.Some x) = some (f x)
+
+-- "None (no such .. intersection) is no refusal": what there may not be, as an outcome.
+abbrev pub outcome_if_any : {A : Type 0} → Option A → Outcome A
+outcome_if_any none = absent
+outcome_if_any (some x) = value x
 
 -- THE ORDER OF THE TESTS. "When several numbers apply, the smallest is given": the refusal of the test that comes first.
 abbrev pub or_else : Option Refusal → Option Refusal → Option Refusal

@@ -4,8 +4,8 @@ use Rattle.std.proofs.Math.Option.{Option, none, some}
 use Rattle.willow.specs.declared.AreaSubspace.{AreaSubspace}
 use Rattle.willow.specs.declared.AreaSubspace.TheVariants.{Any, Id}
 use Rattle.willow.specs.declared.Limits.{Limits}
-use Rattle.willow.specs.declared.Order.{Order}
-use Rattle.willow.specs.declared.Order.TheVariants.{Less, Equal, Greater}
+use Rattle.std.specs.declared.cmp.Ordering.{Ordering}
+use Rattle.std.specs.declared.cmp.Ordering.TheVariants.{Less, Equal, Greater}
 use Rattle.willow.specs.Entries.{Entry, Prunes, ValidEntry}
 use Rattle.willow.specs.Kinds.{of_kind}
 use Rattle.willow.specs.Limits.{max_word}
@@ -134,7 +134,7 @@ subspace_intersection (Id i) Any = some (Id i)
 subspace_intersection (Id i) (Id j) = cond (eqb i j) (some (Id i)) none
 
 -- Any before an id.
-abbrev pub compare_subspaces : AreaSubspace → AreaSubspace → Order
+abbrev pub compare_subspaces : AreaSubspace → AreaSubspace → Ordering
 compare_subspaces Any Any = Equal
 compare_subspaces Any (Id j) = Less
 compare_subspaces (Id i) Any = Greater
@@ -202,7 +202,7 @@ area_prunable a t =
 abbrev pub area_key : Area → AreaSubspace × (Path × Range ℕ)
 area_key a = (a.subspace, (a.path, a.times))
 
-abbrev pub compare_areas : Area → Area → Order
+abbrev pub compare_areas : Area → Area → Ordering
 compare_areas a b = compare_pairs compare_subspaces (compare_pairs compare_paths (compare_ranges compare_numbers)) (area_key a) (area_key b)
 
 abbrev pub with_any_subspace : Area → Area

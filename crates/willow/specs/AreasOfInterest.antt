@@ -1,7 +1,7 @@
 -- Areas of interest: an area with a count and a size.
 use Rattle.std.specs.Prelude.{ℕ, ◌≤◌, ◌<◌, min, ◌≡◌, ◌⊎◌}
 use Rattle.std.proofs.Math.Option.{Option, none, some}
-use Rattle.willow.specs.declared.Order.{Order}
+use Rattle.std.specs.declared.cmp.Ordering.{Ordering}
 use Rattle.willow.specs.Areas.{Area, IsAreaIntersection, AreaBelow, full_area, area_intersection, compare_areas}
 use Rattle.willow.specs.Orders.{Total, Decides, compare_numbers, compare_pairs, PairBelow}
 
@@ -34,7 +34,7 @@ interest_in a b (some m) = some (record {
 unfoldable pub interest_intersection : AreaOfInterest → AreaOfInterest → Option AreaOfInterest
 interest_intersection a b = interest_in a b (area_intersection a.area b.area)
 
-abbrev pub compare_interest : AreaOfInterest → AreaOfInterest → Order
+abbrev pub compare_interest : AreaOfInterest → AreaOfInterest → Ordering
 compare_interest a b =
     compare_pairs compare_areas (compare_pairs compare_numbers compare_numbers)
     (a.area, (a.max_count, a.max_size)) (b.area, (b.max_count, b.max_size))

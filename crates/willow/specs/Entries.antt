@@ -1,8 +1,8 @@
 -- Entries: newer, pruning, and the two orders of entries.
 use Rattle.std.specs.Prelude.{ℕ, ◌<◌, ◌≤◌, ◌≡◌, ◌⊎◌, ◌↔◌, List, Bool, true, ◌&&◌, eqb, length}
 use Rattle.willow.specs.declared.Limits.{Limits}
-use Rattle.willow.specs.declared.Order.{Order}
-use Rattle.willow.specs.declared.Order.TheVariants.{Less}
+use Rattle.std.specs.declared.cmp.Ordering.{Ordering}
+use Rattle.std.specs.declared.cmp.Ordering.TheVariants.{Less}
 use Rattle.willow.specs.Limits.{max_word}
 use Rattle.willow.specs.Numbers.{Bytes}
 use Rattle.willow.specs.Orders.{is_greater, is_equal, Total, Decides, compare_numbers, compare_lists, compare_pairs, ListBelow, PairBelow}
@@ -59,7 +59,7 @@ EntryBelow a b =
     (a.namespace, (place a, age a)) (b.namespace, (place b, age b))
 
 -- WHAT IS COMPUTED.
-abbrev pub compare_ages : Entry → Entry → Order
+abbrev pub compare_ages : Entry → Entry → Ordering
 compare_ages a b = compare_pairs compare_numbers (compare_pairs (compare_lists compare_numbers) compare_numbers) (age a) (age b)
 
 unfoldable pub is_newer : Entry → Entry → Bool
@@ -72,14 +72,14 @@ prunes o e =
     && (is_newer o e
     && is_prefix_of o.path e.path))
 
-abbrev pub compare_places : Entry → Entry → Order
+abbrev pub compare_places : Entry → Entry → Ordering
 compare_places a b = compare_pairs compare_numbers compare_paths (place a) (place b)
 
 -- The derived order of `Entry`: namespace, subspace, path, timestamp, digest, payload length.
 abbrev pub entry_key : Entry → ℕ × ((ℕ × Path) × (ℕ × (List ℕ × ℕ)))
 entry_key e = (e.namespace, (place e, age e))
 
-abbrev pub compare_entries : Entry → Entry → Order
+abbrev pub compare_entries : Entry → Entry → Ordering
 compare_entries a b =
     compare_pairs compare_numbers
     (compare_pairs (compare_pairs compare_numbers compare_paths) (compare_pairs compare_numbers (compare_pairs (compare_lists compare_numbers) compare_numbers)))

@@ -2,7 +2,7 @@
 -- from Willow's Data Model.
 use Rattle.std.specs.Prelude.{ℕ, suc, ◌+◌, ◌≤◌, ◌<◌, ◌≡◌, ◌⊎◌, ◌↔◌, List, [], ◌∷◌, ◌++◌, Bool, true, false, ◌&&◌, ◌||◌, cond, length, take}
 use Rattle.willow.specs.declared.Limits.{Limits}
-use Rattle.willow.specs.declared.Order.{Order}
+use Rattle.std.specs.declared.cmp.Ordering.{Ordering}
 use Rattle.willow.specs.Orders.{is_equal, Total, Decides, compare_numbers, compare_lists, ListBelow}
 use Rattle.willow.specs.Lists.{All}
 use Rattle.willow.specs.Numbers.{Bytes}
@@ -30,10 +30,10 @@ pub record Valid (L : Limits) (p : Path) : Type 0 where
 
 -- THE ORDER. "Component by component, bytes unsigned; a proper prefix is smaller, for components and for paths."
 -- Computed:
-abbrev pub compare_components : Component → Component → Order
+abbrev pub compare_components : Component → Component → Ordering
 compare_components = compare_lists compare_numbers
 
-abbrev pub compare_paths : Path → Path → Order
+abbrev pub compare_paths : Path → Path → Ordering
 compare_paths = compare_lists compare_components
 
 -- Meant:
@@ -53,7 +53,7 @@ abbrev pub Prefix : Path → Path → Type 0
 Prefix p q = (rest : Path) × (p ++ rest ≡ q)
 
 -- Computed:
-abbrev pub is_prefix : {A : Type 0} → (A → A → Order) → List A → List A → Bool
+abbrev pub is_prefix : {A : Type 0} → (A → A → Ordering) → List A → List A → Bool
 is_prefix compare [] ys = true
 is_prefix compare (x ∷ xs) [] = false
 is_prefix compare (x ∷ xs) (y ∷ ys) = is_equal (compare x y) && is_prefix compare xs ys

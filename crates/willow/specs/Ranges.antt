@@ -2,8 +2,8 @@
 use Rattle.std.specs.Prelude.{ℕ, ◌<◌, ◌≤◌, ◌≡◌, ◌⊎◌, ◌↔◌, Bool, true, ◌&&◌, not, cond}
 use Rattle.std.proofs.Math.Option.{Option, none, some}
 use Rattle.willow.specs.declared.Limits.{Limits}
-use Rattle.willow.specs.declared.Order.{Order}
-use Rattle.willow.specs.declared.Order.TheVariants.{Less, Equal, Greater}
+use Rattle.std.specs.declared.cmp.Ordering.{Ordering}
+use Rattle.std.specs.declared.cmp.Ordering.TheVariants.{Less, Equal, Greater}
 use Rattle.willow.specs.declared.RangeEnd.{RangeEnd}
 use Rattle.willow.specs.declared.RangeEnd.TheVariants.{Closed, Open}
 use Rattle.willow.specs.Kinds.{of_kind}
@@ -34,9 +34,9 @@ end_value endless = 0
 unfoldable pub end_from : ℕ → ℕ → Option (End ℕ)
 end_from kind n = of_kind kind endless (closed n)
 
--- The code's ends of ranges of numbers, as ends.
-abbrev pub end_of : RangeEnd → End ℕ
-end_of (Closed n) = closed n
+-- The code's ends of ranges, as ends.
+abbrev pub end_of : {A : Type 0} → RangeEnd A → End A
+end_of (Closed x) = closed x
 end_of Open = endless
 
 -- An end as a number: the greatest where it is open (`From<&RangeEnd<u64>> for u64`).
@@ -81,42 +81,42 @@ IsIntersection {A} Below r s (some m) =
     × ((m.end ≡ r.end) ⊎ (m.end ≡ s.end))
 
 -- WHAT IS COMPUTED, by a comparison.
-abbrev pub compare_ends : {A : Type 0} → (A → A → Order) → End A → End A → Order
+abbrev pub compare_ends : {A : Type 0} → (A → A → Ordering) → End A → End A → Ordering
 compare_ends compare (closed d) (closed e) = compare d e
 compare_ends compare (closed d) endless = Less
 compare_ends compare endless (closed e) = Greater
 compare_ends compare endless endless = Equal
 
 -- `gt_val`: the end is above the value.
-abbrev pub end_above : {A : Type 0} → (A → A → Order) → End A → A → Bool
+abbrev pub end_above : {A : Type 0} → (A → A → Ordering) → End A → A → Bool
 end_above compare (closed e) x = is_greater (compare e x)
 end_above compare endless x = true
 
-unfoldable pub includes : {A : Type 0} → (A → A → Order) → Range A → A → Bool
+unfoldable pub includes : {A : Type 0} → (A → A → Ordering) → Range A → A → Bool
 includes compare r x = not (is_greater (compare r.start x)) && end_above compare r.end x
 
 -- "`includes_range` compares starts and ends, open being greatest."
-unfoldable pub includes_range : {A : Type 0} → (A → A → Order) → Range A → Range A → Bool
+unfoldable pub includes_range : {A : Type 0} → (A → A → Ordering) → Range A → Range A → Bool
 includes_range compare r s = not (is_greater (compare r.start s.start)) && not (is_less (compare_ends compare r.end s.end))
 
 -- `new_closed`: none unless the start is below the end.
-unfoldable pub new_closed : {A : Type 0} → (A → A → Order) → A → A → Option (Range A)
+unfoldable pub new_closed : {A : Type 0} → (A → A → Ordering) → A → A → Option (Range A)
 new_closed compare a e = cond (is_less (compare a e)) (some (record { start = a; end = closed e })) none
 
 -- The later of two starts and the sooner of two ends, the second's where they are equal.
-abbrev pub later_start : {A : Type 0} → (A → A → Order) → A → A → A
+abbrev pub later_start : {A : Type 0} → (A → A → Ordering) → A → A → A
 later_start compare a b = cond (is_greater (compare a b)) a b
 
-abbrev pub sooner_end : {A : Type 0} → (A → A → Order) → End A → End A → End A
+abbrev pub sooner_end : {A : Type 0} → (A → A → Ordering) → End A → End A → End A
 sooner_end compare d e = cond (is_less (compare_ends compare d e)) d e
 
-unfoldable pub intersection : {A : Type 0} → (A → A → Order) → Range A → Range A → Option (Range A)
+unfoldable pub intersection : {A : Type 0} → (A → A → Ordering) → Range A → Range A → Option (Range A)
 intersection compare r s =
     cond (end_above compare (sooner_end compare r.end s.end) (later_start compare r.start s.start))
     (some (record { start = later_start compare r.start s.start; end = sooner_end compare r.end s.end }))
     none
 
-abbrev pub compare_ranges : {A : Type 0} → (A → A → Order) → Range A → Range A → Order
+abbrev pub compare_ranges : {A : Type 0} → (A → A → Ordering) → Range A → Range A → Ordering
 compare_ranges compare r s = compare_pairs compare (compare_ends compare) (bounds r) (bounds s)
 
 -- An end of values that have U.
@@ -127,7 +127,7 @@ EndHas U endless = Unit {0}
 -- THEOREM 5, for every total order that a comparison decides: that of numbers and that of paths. Inclusion of a range is
 -- inclusion of sets, among the values that have U (numbers of 64 bits, valid paths), where the included range has its start
 -- below its end; its premises are met by the range from the least value on. The rest has no premise.
-pub record RangeLaws {A : Type 0} (compare : A → A → Order) (Below : A → A → Type 0) (U : A → Type 0) : Type 0 where
+pub record RangeLaws {A : Type 0} (compare : A → A → Ordering) (Below : A → A → Type 0) (U : A → Type 0) : Type 0 where
   pub value_included : (r : Range A) (x : A) → (includes compare r x ≡ true) ↔ InRange Below r x
   pub range_included : (r s : Range A) → EndHas U r.end → U s.start → NonEmpty Below s
       → (includes_range compare r s ≡ true) ↔ ((x : A) → U x → InRange Below s x → InRange Below r x)

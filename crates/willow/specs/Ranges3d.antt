@@ -4,7 +4,7 @@ use Rattle.std.proofs.Math.Option.{Option, none, some}
 use Rattle.willow.specs.declared.AreaSubspace.{AreaSubspace}
 use Rattle.willow.specs.declared.AreaSubspace.TheVariants.{Any, Id}
 use Rattle.willow.specs.declared.Limits.{Limits}
-use Rattle.willow.specs.declared.Order.{Order}
+use Rattle.std.specs.declared.cmp.Ordering.{Ordering}
 use Rattle.willow.specs.Areas.{Triplet, ValidTriplet, Area, ValidArea, InArea, PrunesSome}
 use Rattle.willow.specs.LeastPaths.{next_greater}
 use Rattle.willow.specs.Limits.{max_word}
@@ -123,7 +123,7 @@ range3d_from L a = record {
 abbrev pub range3d_key : Range3d → Range ℕ × (Range Path × Range ℕ)
 range3d_key r = (r.subspaces, (r.paths, r.times))
 
-abbrev pub compare_ranges3d : Range3d → Range3d → Order
+abbrev pub compare_ranges3d : Range3d → Range3d → Ordering
 compare_ranges3d r s =
     compare_pairs (compare_ranges compare_numbers) (compare_pairs (compare_ranges compare_paths) (compare_ranges compare_numbers))
     (range3d_key r) (range3d_key s)

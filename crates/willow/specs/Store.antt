@@ -2,8 +2,8 @@
 use Rattle.std.specs.Prelude.{ℕ, ◌+◌, ◌-◌, ◌≤◌, ◌≡◌, List, [], ◌∷◌, Bool, true, false, not, cond, eqb, ltb, length}
 use Rattle.std.proofs.Math.Option.{Option, none, some}
 use Rattle.willow.specs.declared.Limits.{Limits}
-use Rattle.willow.specs.declared.Order.{Order}
-use Rattle.willow.specs.declared.Order.TheVariants.{Less, Equal, Greater}
+use Rattle.std.specs.declared.cmp.Ordering.{Ordering}
+use Rattle.std.specs.declared.cmp.Ordering.TheVariants.{Less, Equal, Greater}
 use Rattle.willow.specs.declared.Refusal.{Refusal}
 use Rattle.willow.specs.declared.Refusal.TheVariants.{WrongNamespace, BadPath, TotalFull, NoRoom}
 use Rattle.willow.specs.Entries.{Entry, digest_length, prunes, same_entry, compare_places}
@@ -98,7 +98,7 @@ abbrev pub left_by : Entry → List Entry → List Entry
 left_by e l = filter (λ h. not (prunes e h)) l
 
 -- e put at its place into a list that ascends by place; what stood at that place goes.
-abbrev pub put_before : Order → Entry → Entry → List Entry → List Entry → List Entry
+abbrev pub put_before : Ordering → Entry → Entry → List Entry → List Entry → List Entry
 put_before Less e x xs rest = e ∷ (x ∷ xs)
 put_before Equal e x xs rest = e ∷ xs
 put_before Greater e x xs rest = x ∷ rest

@@ -1,4 +1,5 @@
-// The words that the whole core shares: limits, orders, range ends, subspaces of an area, and refusals.
+// The words that the whole core shares: limits, range ends, subspaces of an area, and refusals. A call that may be refused answers a
+// `Result` with a `Refusal`, a comparison the standard `Ordering`.
 // What they mean, and what the core promises with them, is in specs/. There is no code here: `refusals` has the numbers and the tests.
 #![tactic(auto)]
 
@@ -10,74 +11,37 @@ pub struct Limits {
     pub mpl: u64,
 }
 
-// The answer of a comparison. Code and theory use this one type.
-#[derive(Clone, Copy)]
-pub enum Order {
-    Less,
-    Equal,
-    Greater,
-}
-
-// The end of a range of numbers: excluded, or none.
-#[derive(Clone, Copy)]
-pub enum RangeEnd {
-    Closed(u64),
+// The end of a range: an excluded value, or open, which is above every value. It is an enum of its own and no `Option`, as document 01
+// asks ("subspaces and ends are enums"); and the order of `Option` has none below.
+#[derive(Clone, Copy, PartialEq, Eq, PartialOrd, Ord)]
+pub enum RangeEnd<T> {
+    Closed(T),
     Open,
 }
 
-// The subspaces of an area: all of them, or one.
-#[derive(Clone, Copy)]
+// The subspaces of an area: all of them, or one. An enum of its own too, by the same words.
+#[derive(Clone, Copy, PartialEq, Eq, PartialOrd, Ord)]
 pub enum AreaSubspace {
     Any,
     Id(u64),
 }
 
-// Why a call was refused. `refusal_number` gives the number of each.
-#[derive(Clone, Copy)]
+// Why a call was refused, with its number.
+#[derive(Clone, Copy, Debug, PartialEq, Eq)]
 pub enum Refusal {
-    BadLimits,
-    BadSheet,
-    BadKind,
-    WrongNamespace,
-    BadPath,
-    BadLengths,
-    PathTooLong,
-    TooManyComponents,
-    ComponentTooLong,
-    NoSuchPrefix,
-    Overfilled,
-    Unfinished,
-    TotalFull,
-    NoRoom,
-    OutTooSmall,
-}
-
-// THE ANSWERS that calls share. A test: refused, or nothing to refuse.
-#[derive(Clone, Copy)]
-pub enum Tested {
-    Refused(Refusal),
-    Fine,
-}
-
-// A question with yes or no.
-#[derive(Clone, Copy)]
-pub enum Asked {
-    Refused(Refusal),
-    No,
-    Yes,
-}
-
-// A comparison.
-#[derive(Clone, Copy)]
-pub enum Compared {
-    Refused(Refusal),
-    Is(Order),
-}
-
-// A number that there may not be: a count, a length, or how many bytes were written.
-#[derive(Clone, Copy)]
-pub enum Counted {
-    Refused(Refusal),
-    Nothing,
-    Count(u64),
+    BadLimits = 1,
+    BadSheet = 2,
+    BadKind = 3,
+    WrongNamespace = 4,
+    BadPath = 5,
+    BadLengths = 6,
+    PathTooLong = 7,
+    TooManyComponents = 8,
+    ComponentTooLong = 9,
+    NoSuchPrefix = 10,
+    Overfilled = 11,
+    Unfinished = 12,
+    TotalFull = 13,
+    NoRoom = 14,
+    OutTooSmall = 15,
 }

@@ -1,66 +1,55 @@
 // Components and prefixes of lent paths, written to the front of a lent buffer. Every call refuses 1, then 5, and 15 exactly if
-// the buffer is too short for an answer that there is; what stands behind the answer stays.
-#![tactic(auto)]
+// the buffer is too short for an answer that there is; what stands behind the answer stays. A path comes as a buffer and a count, as
+// document 01 lends it; `path_view` has the two as one value.
+#![tactic(auto, unfolding(willow::specs::Answers::on_path))]
 
 ghost use Rattle.std.specs.Prelude.{◌≡◌};
-ghost use Rattle.packed.specs.Readable.{Readable};
 ghost use Rattle.reading.specs.Reading.{component_of};
-ghost use Rattle.willow.specs.Answers.{counted_outcome, on_path, on_paths, packed_outcome, path_in, written_buffer, written_length};
-ghost use Rattle.willow.specs.Packed.{pack};
-ghost use Rattle.willow.specs.Refusals.{value};
+ghost use Rattle.willow.specs.Answers.{on_path, on_paths, optional_outcome, outcome, packed_outcome, written_buffer, written_length};
 ghost use Rattle.writing.specs.Writing.{common_prefix_of, prefix_of};
 
-use packed::inner;
-use willow::{Counted, Limits, Refusal, Tested};
-use written::write_part;
-
-// The packed form of the first n components of a tested path written to the front of out, if it fits.
-fn write_first(b: &[u8], n: usize, out: &mut [u8]) -> Counted
-    requires { Readable b.now n }
-    ensures result_value { counted_outcome result ≡ written_length (value (pack (path_in b.now n))) out.old }
-    ensures out_after { out.new ≡ written_buffer (value (pack (path_in b.now n))) out.old }
-{
-    let size = 8 + 8 * n + inner::path_length(b, n);
-    if out.len() < size {
-        return Counted::Refused(Refusal::OutTooSmall);
-    }
-    inner::put_prefix(b, n, out);
-    Counted::Count(size as u64)
-}
+use lent_path::{lend, lend_two};
+use willow::{Limits, Refusal};
+use written::write;
 
 // Component i written to the front of out: how many bytes; none past the count; 15 if out is too short.
-pub fn write_component(limits: Limits, b: &[u8], count: u64, i: u64, out: &mut [u8]) -> Counted
-    ensures result_value { counted_outcome result ≡ written_length (on_path limits b.now count (component_of i)) out.old }
+pub fn write_component(
+    limits: Limits,
+    b: &[u8],
+    count: u64,
+    i: u64,
+    out: &mut [u8],
+) -> Result<Option<u64>, Refusal>
+    ensures result_value { optional_outcome result ≡ written_length (on_path limits b.now count (component_of i)) out.old }
     ensures out_after { out.new ≡ written_buffer (on_path limits b.now count (component_of i)) out.old }
 {
-    let t = lent_path::test(limits, b, count);
-    match t {
-        Tested::Refused(r) => Counted::Refused(r),
-        Tested::Fine => if i < count {
-            write_part(inner::component(b, i as usize), out)
-        } else {
-            Counted::Nothing
-        },
+    let path = lend(limits, b, count)?;
+    match path.get(i) {
+        Some(component) => Ok(Some(write(&component, out)?)),
+        None => Ok(None),
     }
 }
 
 // The packed form of the prefix of n components written to the front of out; none if there are fewer; 15 if out is too short.
-pub fn write_prefix(limits: Limits, b: &[u8], count: u64, n: u64, out: &mut [u8]) -> Counted
-    ensures result_value { counted_outcome result ≡ written_length (packed_outcome (on_path limits b.now count (prefix_of n))) out.old }
+pub fn write_prefix(
+    limits: Limits,
+    b: &[u8],
+    count: u64,
+    n: u64,
+    out: &mut [u8],
+) -> Result<Option<u64>, Refusal>
+    ensures result_value { optional_outcome result ≡ written_length (packed_outcome (on_path limits b.now count (prefix_of n))) out.old }
     ensures out_after { out.new ≡ written_buffer (packed_outcome (on_path limits b.now count (prefix_of n))) out.old }
 {
-    let t = lent_path::test(limits, b, count);
-    match t {
-        Tested::Refused(r) => Counted::Refused(r),
-        Tested::Fine => if n <= count {
-            write_first(b, n as usize, out)
-        } else {
-            Counted::Nothing
-        },
+    let path = lend(limits, b, count)?;
+    match path.first(n) {
+        Some(prefix) => Ok(Some(write(&prefix, out)?)),
+        None => Ok(None),
     }
 }
 
 // The packed form of the longest common prefix written to the front of out; 15 if out is too short.
+#[tactic(auto, unfolding(willow::specs::Answers::on_paths), using(crate::proofs::WritingLaws::common_within))]
 pub fn write_longest_common_prefix(
     limits: Limits,
     a: &[u8],
@@ -68,13 +57,10 @@ pub fn write_longest_common_prefix(
     b: &[u8],
     cb: u64,
     out: &mut [u8],
-) -> Counted
-    ensures result_value { counted_outcome result ≡ written_length (packed_outcome (on_paths limits a.now ca b.now cb common_prefix_of)) out.old }
+) -> Result<u64, Refusal>
+    ensures result_value { outcome result ≡ written_length (packed_outcome (on_paths limits a.now ca b.now cb common_prefix_of)) out.old }
     ensures out_after { out.new ≡ written_buffer (packed_outcome (on_paths limits a.now ca b.now cb common_prefix_of)) out.old }
 {
-    let t = lent_path::test_two(limits, a, ca, b, cb);
-    match t {
-        Tested::Refused(r) => Counted::Refused(r),
-        Tested::Fine => write_first(a, inner::common(a, ca as usize, b, cb as usize), out),
-    }
+    let (p, q) = lend_two(limits, a, ca, b, cb)?;
+    write(&p.prefix(p.common(q)), out)
 }

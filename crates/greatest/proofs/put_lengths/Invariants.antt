@@ -7,8 +7,9 @@ use Rattle.willow.specs.Packed.{accumulated}
 use Rattle.number.specs.Overwriting.{overwrite}
 use Rattle.greatest.proofs.put_lengths.Given as goal
 
-abbrev pub invariant-loop-left : goal.invariant-loop-left
-invariant-loop-left l = (overwrite l.out l.at (accumulated l.sum (filled l.limits.mcl l.left (l.limits.mpl - l.sum))) ≡ overwrite l.initial.out 8 (accumulated 0 (greatest l.limits))) × (l.at + 8 * l.left ≤ length l.out) × (l.sum ≤ l.limits.mpl) × (length l.out ≡ length l.initial.out)
-
-abbrev pub decreases-loop-left : goal.decreases-loop-left
-decreases-loop-left l = l.left
+abbrev pub invariant-loop-i : goal.invariant-loop-i
+invariant-loop-i l = record {
+  rest : overwrite l.out (8 + 8 * l.i) (accumulated l.sum (filled l.limits.mcl (l.limits.mcc - l.i) (l.limits.mpl - l.sum))) ≡ overwrite l.initial.out 8 (accumulated 0 (greatest l.limits));
+  within : l.sum ≤ l.limits.mpl;
+  same_length : length l.out ≡ length l.initial.out;
+}

@@ -8,4 +8,4 @@ use Rattle.host_entry.proofs.MadeHeads.{on_heads}
 use Rattle.host_entry.proofs.wotskrale_entry_compare.Goals as goal
 
 pub returns : goal.returns
-returns c = c.compared.ensures ∙ ap (given order_number) (c.compare.ensures ∙ on_heads (λ x y. value (compare_entries x y)) _ _ _ _ _ _ _ _ _ _ _ c.new-h.ensures c.new-h2.ensures)
+returns c = c.answered.ensures ∙ ap (given order_number) (c.compare.ensures ∙ on_heads (λ x y. value (compare_entries x y)) _ _ _ _ _ _ _ _ _ _ _ c.new-head.ensures c.new-head2.ensures)

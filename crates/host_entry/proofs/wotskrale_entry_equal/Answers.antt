@@ -7,4 +7,4 @@ use Rattle.host_entry.proofs.MadeHeads.{on_heads}
 use Rattle.host_entry.proofs.wotskrale_entry_equal.Goals as goal
 
 pub returns : goal.returns
-returns c = c.asked.ensures ∙ ap (given yes_number) (c.equal.ensures ∙ on_heads (λ x y. value (same_entry x y)) _ _ _ _ _ _ _ _ _ _ _ c.new-h.ensures c.new-h2.ensures)
+returns c = c.answered.ensures ∙ ap (given yes_number) (c.equal.ensures ∙ on_heads (λ x y. value (same_entry x y)) _ _ _ _ _ _ _ _ _ _ _ c.new-head.ensures c.new-head2.ensures)

@@ -7,4 +7,4 @@ use Rattle.host_entry.proofs.MadeHeads.{on_heads}
 use Rattle.host_entry.proofs.wotskrale_entry_is_pruned_by.Goals as goal
 
 pub returns : goal.returns
-returns c = c.asked.ensures ∙ ap (given yes_number) (c.is_pruned_by.ensures ∙ on_heads (λ x y. value (prunes y x)) _ _ _ _ _ _ _ _ _ _ _ c.new-h.ensures c.new-h2.ensures)
+returns c = c.answered.ensures ∙ ap (given yes_number) (c.is_pruned_by.ensures ∙ on_heads (λ x y. value (prunes y x)) _ _ _ _ _ _ _ _ _ _ _ c.new-head.ensures c.new-head2.ensures)

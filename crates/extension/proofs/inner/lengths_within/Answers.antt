@@ -1,16 +1,12 @@
-use mathlib.Core.Path.{sym, ◌∙◌}
-use native.Mathlib.Omega.{arith}
-use Rattle.extension.proofs.LengthLaws.{within_start, within_over, within_on, within_end}
+use Rattle.std.proofs.Common.{◌/◌, length, ◌∙◌, refl, rules, arith}
+use borrow.Author.Tests.{tests}
+use Rattle.std.proofs.lemmas.Iterator.{YieldsList-from_range}
+use Rattle.std.proofs.lemmas.Iterator.Search.{all_from_yields_List}
+use Rattle.extension.proofs.LengthLaws.{is_within, within_all}
 use Rattle.extension.proofs.inner.lengths_within.Goals as goal
 
-pub loop-left-init : goal.loop-left-init
-loop-left-init c = (within_start _ _, omega arith)
-
-pub returns-then-mcl-read_u64 : goal.returns-then-mcl-read_u64
-returns-then-mcl-read_u64 c = sym (within_over _ _ _ _ _ c.loop-left-test.true c.read_u64.ensures c.if-mcl-read_u64.true) ∙ c.loop-left.invariant.0
-
-pub loop-left-preserved : goal.loop-left-preserved
-loop-left-preserved c = (sym (within_on _ _ _ _ _ c.loop-left-test.true c.read_u64.ensures c.if-mcl-read_u64.false) ∙ c.loop-left.invariant.0, omega arith)
-
 pub returns : goal.returns
-returns c = sym (within_end c.args.mcl c.args.lengths.now c.loop-left.at c.loop-left.left c.loop-left-test.false) ∙ c.loop-left.invariant.0
+returns c =
+    let s = c.args.lengths.now in
+    all_from_yields_List (is_within c.args.mcl s) _ _ c.all.result c.all.ensures.ran (YieldsList-from_range 0 (length s / 8) (length s / 8) refl (omega arith)) (λ x b q k. search (rules, tests))
+    ∙ within_all c.args.mcl s

@@ -3,14 +3,14 @@
 use Prim.Native.Nat.{◌+◌, ◌≤◌}
 use mathlib.Core.Path.{◌≡◌}
 use lib.ListN.{length}
-use Rattle.willow.specs.Answers.{path_in}
 use Rattle.number.specs.Overwriting.{overwrite}
+use Rattle.packed.specs.LentPaths.{path_of}
 use Rattle.keyshow.proofs.ShowLaws.{rest_text}
 use Rattle.keyshow.proofs.inner.put_path.Given as goal
 
 abbrev pub invariant-loop-i : goal.invariant-loop-i
 invariant-loop-i l =
-    (l.at + length (rest_text (path_in l.b l.k) l.i) ≡ l.initial.at + length (rest_text (path_in l.b l.k) 1))
-    × (l.initial.at + length (rest_text (path_in l.b l.k) 1) ≤ length l.out)
+    (l.at + length (rest_text (path_of l.path) l.i) ≡ l.initial.at + length (rest_text (path_of l.path) 1))
+    × (l.initial.at + length (rest_text (path_of l.path) 1) ≤ length l.out)
     × (length l.out ≡ length l.initial.out)
-    × (overwrite l.out l.at (rest_text (path_in l.b l.k) l.i) ≡ overwrite l.initial.out l.initial.at (rest_text (path_in l.b l.k) 1))
+    × (overwrite l.out l.at (rest_text (path_of l.path) l.i) ≡ overwrite l.initial.out l.initial.at (rest_text (path_of l.path) 1))

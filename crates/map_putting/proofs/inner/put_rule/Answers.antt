@@ -1,44 +1,39 @@
 -- The head comes back written where it stood, then the cell, and together they are row n.
-use native.Mathlib.Omega.{arith}
-use Rattle.map_form.specs.Maps.{MapSizes}
-use Rattle.willow.proofs.PackedLaws.{pack_length}
-use Rattle.packed.proofs.PrefixLaws.{front}
-use Rattle.willow.specs.Answers.{path_in}
-use Rattle.map_putting.proofs.PutLaws.{RowFree, row_free, rule_put}
+use Rattle.std.proofs.Common.{◌≡◌, ap, rules}
+use Rattle.packed.specs.LentPaths.{path_of}
+use Rattle.sheet.specs.Cells.{cell_size_of}
+use Rattle.map_putting.proofs.PutLaws.{row_free, rule_put, head_from, cell_from}
 use Rattle.map_putting.proofs.inner.put_rule.Goals as goal
-use Rattle.map_putting.proofs.inner.put_rule.Goals.{Start}
+use Rattle.map_putting.proofs.inner.put_rule.Goals.{After-cell_place-cell, After-head_place-head}
 
-abbrev sizes : Start → MapSizes
-sizes c = record { limits = c.args.limits; capacity = c.args.capacity }
+-- the places, in the numbers of a map
+head_is : (c : After-head_place-head) → c.head_place-head.result ≡ head_from c.args.n
+head_is c = rw c.shape-shape.ensures at c.head_place-head.ensures
 
-facts : (c : Start) → RowFree ((record { limits = c.args.limits; capacity = c.args.capacity })) c.args.sheet.now c.args.n
-facts c = row_free ((record { limits = c.args.limits; capacity = c.args.capacity })) c.args.sheet.now c.args.n c.requires.room.0 c.requires.room.1
+cell_is : (c : After-cell_place-cell) → c.cell_place-cell.result ≡ cell_from c.args.sizes c.args.n
+cell_is c = rw c.shape-shape.ensures at c.cell_place-cell.ensures
 
-pub overflow_add-cell : goal.overflow_add-cell
-overflow_add-cell c = omega (arith, facts (goal.at.overflow_add-cell c).Start)
-
-pub overflow_mul-cell : goal.overflow_mul-cell
-overflow_mul-cell c = omega (arith, facts (goal.at.overflow_mul-cell c).Start)
-
-pub overflow_add-cell-2 : goal.overflow_add-cell-2
-overflow_add-cell-2 c = omega (arith, facts (goal.at.overflow_add-cell-2 c).Start)
-
-pub overflow_mul-c-2 : goal.overflow_mul-c-2
-overflow_mul-c-2 c = omega (arith, facts (goal.at.overflow_mul-c-2 c).Start)
-
-pub overflow_add-c-2 : goal.overflow_add-c-2
-overflow_add-c-2 c = omega (arith, facts (goal.at.overflow_add-c-2 c).Start)
-
-pub overflow_add-d : goal.overflow_add-d
-overflow_add-d c = omega (arith, facts (goal.at.overflow_add-d c).Start)
+size_is : (c : After-cell_place-cell) → c.shape-shape.result.cell_size ≡ cell_size_of c.args.sizes.limits
+size_is c = ap (λ z. z.cell_size) c.shape-shape.ensures
 
 pub slice_bounds-write_cell-end : goal.slice_bounds-write_cell-end
-slice_bounds-write_cell-end c = let k = c.sheet-1.given in omega (arith, facts (goal.at.slice_bounds-write_cell-end c).Start)
+slice_bounds-write_cell-end c =
+    let t = (goal.at.slice_bounds-write_cell-end c).After-cell_place-cell in
+    let a = c.args in
+    let free = row_free a.sizes a.sheet.now a.n c.requires.room.0 c.requires.room.1 in
+    rw (cell_is t, size_is t) (search rules)
+
+pub write_cell-requires : goal.write_cell-requires
+write_cell-requires c =
+    let t = (goal.at.write_cell-requires c).After-cell_place-cell in
+    let a = c.args in
+    let free = row_free a.sizes a.sheet.now a.n c.requires.room.0 c.requires.room.1 in
+    rw (cell_is t, size_is t) (search rules)
 
 pub returns : goal.returns
 returns c =
-    let path = path_in c.args.base.now c.args.area.count in
-    let l = pack_length path in
-    let n = (front c.args.base.now c.args.area.count c.requires.readable.0).count in
-    rule_put (sizes (goal.at.returns c).Start) c.args.sheet.now c.args.n _ c.requires.room.0 c.requires.room.1 (omega (arith, l, n, c.requires.readable.1)) _ _ _
-    (c.write_head.ensures path) c.write_cell.ensures c.write_u64.ensures
+    let t = (goal.at.returns c).After-cell_place-cell in
+    let h = (goal.at.returns c).After-head_place-head in
+    let a = c.args in
+    rule_put a.sizes a.sheet.now a.n _ c.requires.room.0 c.requires.room.1 c.requires.fits _ _ _
+    (c.write_head.ensures (path_of a.path)) (rw (head_is h, cell_is t, size_is t) at c.write_cell.ensures) (rw (head_is h, cell_is t, size_is t) at c.write_u64.ensures)

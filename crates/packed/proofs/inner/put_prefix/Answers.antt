@@ -35,6 +35,6 @@ put-requires-2 c =
 
 pub returns : goal.returns
 returns c =
-    prefix_written c.args.b.now c.args.n _ _ c.requires.0 (bytes_by_index c.args.b.now (λ i. (c.shared_slice_known-1.given i).fits))
+    prefix_written c.args.b.now c.args.n _ _ c.requires.0 (bytes_by_index c.args.b.now (λ i. (c.type_inv.b i).fits))
     c.component_count.ensures c.length_before.ensures c.args.out.now _ _ _ c.requires.1
     c.write_u64.ensures c.put.ensures c.put-2.ensures

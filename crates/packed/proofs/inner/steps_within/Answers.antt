@@ -1,46 +1,24 @@
-use Rattle.std.proofs.Common.{ℕ, ◌-◌, sym, refl, ◌∙◌, arith}
-use Rattle.packed.proofs.StepLaws.{steps_fall, steps_wide, steps_on, steps_end}
+-- Each way through the body is one law. Where the bits of the steps already decided, they did so rightly.
+use Rattle.std.proofs.Common.{◌+◌, ◌-◌, ◌*◌, sym, ◌∙◌, arith}
+use Rattle.packed.proofs.StepLaws.{steps_fall, steps_wide, steps_first, steps_next, steps_end}
 use Rattle.packed.proofs.inner.steps_within.Goals as goal
 
-pub returns-then-bits_within : goal.returns-then-bits_within
-returns-then-bits_within c = sym (c.bits_within.ensures c.if-bits_within.true)
-
-pub loop-at-init : goal.loop-at-init
-loop-at-init c = (_, refl, refl)
-
-pub read_u64-next-requires : goal.read_u64-next-requires
-read_u64-next-requires c = let e = c.loop-at.invariant.1 in omega arith
+pub loop-i-init : goal.loop-i-init
+loop-i-init c = let a = c.args in steps_first a.mcl a.most a.b.now a.n
 
 pub returns-then-next-from : goal.returns-then-next-from
-returns-then-next-from c =
-    let l = c.loop-at in
-    let e = l.invariant.1 in
-    sym (steps_fall _ _ _ _ _ l.invariant.0 _ (omega arith) c.read_u64-next.ensures c.if-next-from.true) ∙ l.invariant.2
+returns-then-next-from c = sym (steps_fall _ _ _ _ _ _ _ (omega arith) c.read_u64-next.ensures c.if-next-from.true) ∙ c.loop-i.invariant
 
 pub returns-then-mcl-next : goal.returns-then-mcl-next
 returns-then-mcl-next c =
-    let l = c.loop-at in
-    let e = l.invariant.1 in
-    sym (steps_wide _ _ _ _ _ l.invariant.0 _ (omega arith) c.read_u64-next.ensures c.if-next-from.false c.if-mcl-next.true) ∙ l.invariant.2
+    sym (steps_wide _ _ _ _ _ _ _ (omega arith) c.read_u64-next.ensures c.if-next-from.false c.if-mcl-next.true) ∙ c.loop-i.invariant
 
-pub overflow_add-at : goal.overflow_add-at
-overflow_add-at c = let e = c.loop-at.invariant.1 in omega arith
-
-pub loop-at-smaller : goal.loop-at-smaller
-loop-at-smaller c = let e = c.loop-at.invariant.1 in omega arith
-
-pub loop-at-preserved : goal.loop-at-preserved
-loop-at-preserved c =
-    let l = c.loop-at in
-    let k : ℕ = l.invariant.0 in
-    let e = l.invariant.1 in (
-      k - 1,
-      omega arith,
-      sym (steps_on _ _ _ _ _ k _ (omega arith) c.read_u64-next.ensures c.if-next-from.false c.if-mcl-next.false) ∙ l.invariant.2,
-    )
+pub loop-i-preserved : goal.loop-i-preserved
+loop-i-preserved c =
+    steps_next _ _ _ _ c.loop-i.i _ _ c.loop-i-test.true c.read_u64-next.ensures c.if-next-from.false c.if-mcl-next.false ∙ c.loop-i.invariant
 
 pub returns : goal.returns
 returns c =
-    let l = c.loop-at in
-    let e = l.invariant.1 in
-    sym (steps_end _ _ _ _ _ l.invariant.0 (omega arith)) ∙ l.invariant.2
+    let a = c.args in
+    let i = c.loop-i.i in
+    sym (steps_end a.mcl a.most a.b.now (8 + 8 * i) c.loop-i.from (a.n - i) (omega arith)) ∙ c.loop-i.invariant

@@ -3,42 +3,26 @@ use Prim.Native.Nat.{◌+◌, ◌-◌, ◌*◌}
 use mathlib.Core.Path.{◌∙◌, ap}
 use native.Mathlib.Omega.{arith}
 use Rattle.number.specs.Overwriting.{overwrite, zeros}
-use Rattle.row_moves.specs.Shapes.{shape_of}
-use Rattle.row_moves.proofs.PlaceLaws.{Place, place}
+use Rattle.number.proofs.RecordLaws.{mul_part}
+use Rattle.sheet.specs.Rows.{cells_from}
 use Rattle.sheet.proofs.RowLaws.{rows_cleared}
 use Rattle.row_moves.proofs.inner.clear_rows.Goals as goal
-use Rattle.row_moves.proofs.inner.clear_rows.Goals.{Start}
-
-facts : (c : Start) → Place c.args.head c.args.cell c.args.capacity c.args.k (c.args.n - c.args.k)
-facts c = place _ _ _ _ _ (omega arith)
-
-pub overflow_mul-hk : goal.overflow_mul-hk
-overflow_mul-hk c = omega (arith, facts (goal.at.overflow_mul-hk c).Start)
-
-pub overflow_add-hk : goal.overflow_add-hk
-overflow_add-hk c = omega (arith, facts (goal.at.overflow_add-hk c).Start)
-
-pub overflow_mul-hn : goal.overflow_mul-hn
-overflow_mul-hn c = omega (arith, facts (goal.at.overflow_mul-hn c).Start)
-
-pub overflow_mul-ck : goal.overflow_mul-ck
-overflow_mul-ck c = omega (arith, facts (goal.at.overflow_mul-ck c).Start)
-
-pub overflow_add-ck : goal.overflow_add-ck
-overflow_add-ck c = omega (arith, facts (goal.at.overflow_add-ck c).Start)
-
-pub overflow_mul-cn : goal.overflow_mul-cn
-overflow_mul-cn c = omega (arith, facts (goal.at.overflow_mul-cn c).Start)
 
 pub zero-requires : goal.zero-requires
-zero-requires c = omega (arith, facts (goal.at.zero-requires c).Start)
+zero-requires c =
+    let a = c.args in
+    omega (arith, c.head_place.ensures, mul_part a.shape.head_size a.k (a.n - a.k) a.shape.capacity (omega arith))
 
 pub zero-requires-2 : goal.zero-requires-2
-zero-requires-2 c = let k = c.zero.auto in omega (arith, facts (goal.at.zero-requires-2 c).Start)
+zero-requires-2 c =
+    let a = c.args in
+    let long = c.zero.auto in
+    omega (arith, c.cell_place.ensures, mul_part a.shape.cell_size a.k (a.n - a.k) a.shape.capacity (omega arith))
 
 pub returns : goal.returns
 returns c =
     let a = c.args in
-    c.zero-2.ensures
-    ∙ ap (λ l. overwrite l (a.front + a.head * a.capacity + a.cell * a.k) (zeros (a.cell * (a.n - a.k)))) c.zero.ensures
-    ∙ rows_cleared (shape_of a.front a.head a.cell a.capacity) a.s.now c.requires.0 a.k (a.n - a.k) (omega arith)
+    let z = a.shape in
+    rw c.cell_place.ensures at c.zero-2.ensures
+    ∙ ap (λ l. overwrite l (cells_from z + z.cell_size * a.k) (zeros (z.cell_size * (a.n - a.k)))) (rw c.head_place.ensures at c.zero.ensures)
+    ∙ rows_cleared z a.s.now c.requires.0 a.k (a.n - a.k) (omega arith)

@@ -18,6 +18,7 @@ returns-then-well_formed c =
     c.is_zero.ensures
     ∙ sym (cell_formed _ _ _ c.if-cell-lt8.false c.read_u64-k.ensures _ (omega arith) c.length_before-last.ensures (omega arith) (sym c.well_formed-2.ensures ∙ c.if-well_formed.true))
 
-pub returns : goal.returns
-returns c =
-    sym (cell_malformed _ _ _ c.if-cell-lt8.false c.read_u64-k.ensures _ (omega arith) c.length_before-last.ensures (omega arith) (sym c.well_formed-2.ensures ∙ c.if-well_formed.false))
+pub returns-else-well_formed : goal.returns-else-well_formed
+returns-else-well_formed c =
+    c.if-well_formed.false
+    ∙ sym (cell_malformed _ _ _ c.if-cell-lt8.false c.read_u64-k.ensures _ (omega arith) c.length_before-last.ensures (omega arith) (sym c.well_formed-2.ensures ∙ c.if-well_formed.false))

@@ -1,6 +1,7 @@
 -- What the count and the last accumulated length say that a cell uses, cut out.
 use Prim.Native.Nat.{◌+◌, ◌*◌}
-use mathlib.Core.Path.{◌≡◌}
+use mathlib.Core.Path.{◌≡◌, sym}
+use lib.Seq.{length-take-le}
 use native.Mathlib.Omega.{arith}
 use Rattle.sheet.specs.Cells.{used_bytes}
 use Rattle.sheet.proofs.CellTestLaws.{used_is, part_is}
@@ -14,7 +15,7 @@ pub overflow_add-used-2 : goal.overflow_add-used-2
 overflow_add-used-2 c = omega (arith, used (goal.at.overflow_add-used-2 c).After-length_before)
 
 pub slice_bounds-result-end : goal.slice_bounds-result-end
-slice_bounds-result-end c = omega (arith, used (goal.at.slice_bounds-result-end c).After-length_before)
+slice_bounds-result-end c = let u = used (goal.at.slice_bounds-result-end c).After-length_before in sym (length-take-le _ c.args.cell.now (omega (arith, u, c.requires)))
 
 pub returns : goal.returns
 returns c = part_is _ _ _ c.read_u64-k.ensures c.length_before.ensures

@@ -1,33 +1,30 @@
-use Prim.Native.Nat.{◌-◌}
-use mathlib.Core.Path.{◌≡◌, refl, sym, ◌∙◌, ap}
-use native.Mathlib.Omega.{arith}
+use Rattle.std.proofs.Common.{◌≡◌, ◌-◌, ◌+◌, refl, sym, ◌∙◌, ap, arith}
 use Rattle.store_form.specs.Apart.{covering}
-use Rattle.store_rows.specs.EntryRows.{row_entry}
+use Rattle.store_rows.specs.HeldRows.{held_entry}
 use Rattle.store_passes.specs.Positions.{entries_at}
 use Rattle.store_passes.proofs.CarryLaws.{covering_stop, covering_next}
 use Rattle.store_passes.proofs.inner.covering.Goals as goal
 
-pub loop-left-init : goal.loop-left-init
-loop-left-init c = (omega arith, refl)
+pub loop-k-init : goal.loop-k-init
+loop-k-init c = refl
 
-pub row_covers-requires : goal.row_covers-requires
-row_covers-requires c =
-    let p = c.requires in
-    let b = p.2.below (c.loop-left.left - 1) (omega arith) in
-    (p.0, omega arith, omega arith)
+pub covers-requires : goal.covers-requires
+covers-requires c = (omega (arith, c.requires.1.below (c.loop-k.k - 1) (omega arith), c.requires.0), c.requires.0)
 
-pub returns-then-row_covers : goal.returns-then-row_covers
-returns-then-row_covers c =
-    let s = c.args in
-    (c.loop-left.invariant.0, sym (covering_stop s.limits _ s.s.now s.carried.now (row_entry s.limits s.capacity s.s.now s.i) _ c.loop-left-test.true _ c.row_covers.ensures c.if-row_covers.true) ∙ c.loop-left.invariant.1)
+pub returns-then-covers : goal.returns-then-covers
+returns-then-covers c =
+    let e : c.loop-k.k - 1 + 1 ≡ c.loop-k.k = omega arith in (
+      omega arith,
+      ap (entries_at c.args.rows c.args.carried.now) e
+          ∙ sym (covering_stop c.args.rows c.args.carried.now (held_entry c.args.rows c.args.i) _ c.loop-k-test.true _ c.covers.ensures c.if-covers.true)
+          ∙ c.loop-k.invariant,
+    )
 
-pub loop-left-preserved : goal.loop-left-preserved
-loop-left-preserved c =
-    let s = c.args in
-    (omega arith, sym (covering_next s.limits _ s.s.now s.carried.now (row_entry s.limits s.capacity s.s.now s.i) _ c.loop-left-test.true _ c.row_covers.ensures c.if-row_covers.false) ∙ c.loop-left.invariant.1)
+pub loop-k-preserved : goal.loop-k-preserved
+loop-k-preserved c =
+    sym (covering_next c.args.rows c.args.carried.now (held_entry c.args.rows c.args.i) _ c.loop-k-test.true _ c.covers.ensures c.if-covers.false) ∙ c.loop-k.invariant
 
 pub returns : goal.returns
 returns c =
-    let s = c.args in
-    let z : c.loop-left.left ≡ 0 = omega arith in
-    (omega arith, ap (λ d. covering (row_entry s.limits s.capacity s.s.now s.i) (entries_at s.limits s.capacity s.s.now s.carried.now d)) (sym z) ∙ c.loop-left.invariant.1)
+    let z : c.loop-k.k ≡ 0 = omega arith in
+    (omega arith, ap (λ d. covering (held_entry c.args.rows c.args.i) (entries_at c.args.rows c.args.carried.now d)) (sym z) ∙ c.loop-k.invariant)

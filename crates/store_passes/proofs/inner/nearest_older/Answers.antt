@@ -1,16 +1,13 @@
 -- The nearest is the entry of the last position.
-use Prim.Native.Nat.{◌-◌}
-use native.Mathlib.Omega.{arith}
-use Rattle.store_passes.proofs.CarryLaws.{nearest_last}
+use Rattle.std.proofs.Common.{sym, arith}
+use Rattle.store_passes.proofs.CarryLaws.{nearest_below, nearest_last, nearest_none}
 use Rattle.store_passes.proofs.inner.nearest_older.Goals as goal
 
-pub row_newer-requires : goal.row_newer-requires
-row_newer-requires c =
-    let p = c.requires in
-    let b = p.2.below (c.args.depth - 1) (omega arith) in
-    (p.0, omega arith, omega arith)
+pub is_newer-requires : goal.is_newer-requires
+is_newer-requires c = (omega (arith, nearest_below _ _ _ c.requires.1 (sym c.in-Some.ensures.value), c.requires.0), c.requires.0)
 
-pub returns : goal.returns
-returns c =
-    let s = c.args in
-    nearest_last s.limits _ s.s.now s.carried.now _ _ (omega arith) _ c.row_newer.ensures
+pub returns-in-None : goal.returns-in-None
+returns-in-None c = nearest_none c.args.rows _ _ c.in-None.ensures.value
+
+pub returns-in-Some : goal.returns-in-Some
+returns-in-Some c = nearest_last c.args.rows _ _ _ (sym c.in-Some.ensures.value) _ c.is_newer.ensures

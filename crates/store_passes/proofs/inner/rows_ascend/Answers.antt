@@ -1,17 +1,12 @@
-use Prim.Native.Nat.{◌-◌}
-use mathlib.Core.Path.{refl, sym, ◌∙◌}
-use native.Mathlib.Omega.{arith}
-use Rattle.store_passes.proofs.LeftLaws.{ascends_next, ascends_stop, ascends_end}
+-- Each row but the first was asked for being above the one before it, and all were answered yes, or one was answered no.
+use Rattle.std.proofs.Common.{◌≡◌, ◌-◌, true, false, arith, rules}
+use borrow.Author.Tests.{tests}
+use Rattle.std.proofs.lemmas.Iterator.{YieldsList-from_range, cases_from_all}
+use Rattle.store_passes.proofs.LeftLaws.{above, ascends_by_number}
 use Rattle.store_passes.proofs.inner.rows_ascend.Goals as goal
 
-pub loop-i-init : goal.loop-i-init
-loop-i-init c = (omega arith, refl)
-
-pub loop-i-preserved : goal.loop-i-preserved
-loop-i-preserved c = (omega arith, sym (ascends_next c.args.limits _ _ _ c.requires.room c.requires.count _ c.loop-i-test.true _ c.row_below.ensures c.if-row_below.true) ∙ c.loop-i.invariant.1)
-
-pub returns-else-row_below : goal.returns-else-row_below
-returns-else-row_below c = sym (ascends_stop c.args.limits _ _ _ c.requires.room c.requires.count _ c.loop-i-test.true _ c.row_below.ensures c.if-row_below.false) ∙ c.loop-i.invariant.1
-
 pub returns : goal.returns
-returns c = sym (ascends_end c.args.limits _ _ _ c.requires.room c.requires.count _ c.loop-i-test.false c.loop-i.invariant.0) ∙ c.loop-i.invariant.1
+returns c =
+    let r = c.args.rows in
+    ascends_by_number r _
+    (cases_from_all _ _ _ (λ k. above r k ≡ true) (λ k. above r k ≡ false) c.all.ensures.ran (YieldsList-from_range 1 r.count (r.count - 1) (search rules) (omega arith)) (λ x q k. search (rules, tests)) (λ x q k. search (rules, tests)))

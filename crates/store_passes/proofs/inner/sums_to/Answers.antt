@@ -1,20 +1,23 @@
-use Prim.Native.Nat.{◌-◌}
-use mathlib.Core.Path.{refl, sym, ◌∙◌}
-use native.Mathlib.Omega.{arith}
-use Rattle.store_passes.proofs.LeftLaws.{head_long, sum_over, sum_next, sum_end}
+use Rattle.std.proofs.Common.{refl, sym, ◌∙◌, arith}
+use Rattle.store_passes.proofs.LeftLaws.{sum_over, sum_next, sum_end}
 use Rattle.store_passes.proofs.inner.sums_to.Goals as goal
 
 pub loop-i-init : goal.loop-i-init
-loop-i-init c = (omega arith, λ L r k. refl)
-
-pub read_u64-x-requires : goal.read_u64-x-requires
-read_u64-x-requires c = let l = head_long c.args.limits _ _ _ c.requires.2 c.requires.3 _ c.loop-i-test.true _ c.record_part.ensures in omega arith
-
-pub returns-then-rest-x : goal.returns-then-rest-x
-returns-then-rest-x c = sym (sum_over c.args.limits _ _ _ c.requires.2 c.requires.3 _ c.loop-i-test.true _ c.record_part.ensures _ c.read_u64-x.ensures _ c.if-rest-x.true) ∙ c.loop-i.invariant.1 c.args.limits c.requires.2 c.requires.3
+loop-i-init c = refl
 
 pub loop-i-preserved : goal.loop-i-preserved
-loop-i-preserved c = (omega arith, λ L r k. sym (sum_next L _ _ _ r k _ c.loop-i-test.true _ c.record_part.ensures _ c.read_u64-x.ensures _ c.if-rest-x.false) ∙ c.loop-i.invariant.1 L r k)
+loop-i-preserved c =
+    let r = c.args.rows in
+    let x = c.in-Some.ensures in
+    rw x.1 (sym (sum_next r _ c.loop-i-test.true _ c.payload_length.ensures _ x.0) ∙ c.loop-i.invariant)
+
+pub returns-in_default : goal.returns-in_default
+returns-in_default c =
+    let r = c.args.rows in
+    let x = c.in_default.ensures in
+    sym (sum_over r _ c.loop-i-test.true _ c.payload_length.ensures _ (omega (arith, x))) ∙ c.loop-i.invariant
 
 pub returns : goal.returns
-returns c = sym (sum_end c.args.limits _ _ _ c.requires.2 c.requires.3 _ _ c.loop-i-test.false) ∙ c.loop-i.invariant.1 c.args.limits c.requires.2 c.requires.3
+returns c =
+    let r = c.args.rows in
+    sym (sum_end r _ _ c.loop-i-test.false) ∙ c.loop-i.invariant

@@ -1,7 +1,10 @@
--- What the bytes taken so far have done; one byte more is one law.
-use Rattle.std.proofs.Common.{take}
-use Rattle.keyinput.specs.Held.{Takes}
+-- The lines taken so far stand before the rest; each turn takes a line, and what it does is one law.
+use Rattle.std.proofs.Common.{List, ℕ, length}
+use Rattle.keyinput.proofs.HeldLaws.{FedSoFar}
 use Rattle.keyinput.proofs.inner.Pending.feed.Given as goal
 
-abbrev pub invariant-loop-i : goal.invariant-loop-i
-invariant-loop-i l = Takes l.initial.self (take l.i l.chunk) l.initial.out 0 l.self l.at l.out
+abbrev pub invariant-loop-n : goal.invariant-loop-n
+invariant-loop-n l = (done : List ℕ) × FedSoFar l.initial.self l.chunk l.initial.out done l.rest l.self l.at l.out
+
+abbrev pub decreases-loop-n : goal.decreases-loop-n
+decreases-loop-n l = length l.rest

@@ -1,7 +1,0 @@
--- The call's own equation, turned into numbers.
-use mathlib.Core.Path.{◌∙◌, ap}
-use Rattle.convention.specs.Exports.{given, itself}
-use Rattle.host_greatest.proofs.wotskrale_path_new_max.Goals as goal
-
-pub returns : goal.returns
-returns c = record { value = c.counted.ensures ∙ ap (given itself) c.new_max.ensures.result_value; out_after = c.new_max.ensures.out_after }

@@ -1,2 +1,0 @@
-pub mod RuleAtLaws
-pub mod RuleCallLaws

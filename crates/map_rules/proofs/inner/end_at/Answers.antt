@@ -1,9 +1,0 @@
--- The test of the kind is that of the definition.
-use borrow.Author.Tests.{eq-eqb, ne_eqb}
-use Rattle.map_rules.proofs.inner.end_at.Goals as goal
-
-pub returns-then-kind-eq0 : goal.returns-then-kind-eq0
-returns-then-kind-eq0 c = rw (eq-eqb _ _ c.if-kind-eq0.true)
-
-pub returns : goal.returns
-returns c = rw (ne_eqb _ _ c.if-kind-eq0.false)

@@ -1,8 +1,0 @@
--- One equation for each kind of end.
-use Rattle.range.proofs.is_open.Goals as goal
-
-pub returns-in-Closed : goal.returns-in-Closed
-returns-in-Closed c = rw c.in-Closed.is
-
-pub returns-in-Open : goal.returns-in-Open
-returns-in-Open c = rw c.in-Open.is
