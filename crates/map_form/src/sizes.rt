@@ -12,7 +12,7 @@ use sheet::shape::Shape;
 use willow::Limits;
 
 // The limits of a map's paths, and its capacity N. That they are accepted is asked of the methods and no ghost field: they are read
-// before they are tested, and a second type for those that passed would say no more.
+// before they are tested. Where they passed, what goes on is their shape, with bytes that have room for it: `sheet::rows::Rows`.
 #[derive(Clone, Copy)]
 pub struct MapSizes {
     pub limits: Limits,

@@ -1,5 +1,5 @@
 // The head and the cell of a rule, written into a map that has room for them. A sheet that is written comes with its sizes, as in
-// `store_closing`.
+// `store_closing`: a struct that lends its bytes would have to be made anew after each write.
 
 ghost use Rattle.std.specs.Prelude.{◌≡◌, ◌<◌, ◌≤◌, length};
 ghost use Rattle.willow.specs.Numbers.{le};

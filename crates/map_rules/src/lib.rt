@@ -5,12 +5,11 @@ ghost use Rattle.std.specs.Prelude.{◌<◌, ◌≡◌, ◌≤◌, cond, eqb, If
 ghost use Rattle.std.proofs.Math.Option.{none, some};
 ghost use Rattle.willow.specs.Packed.{Packed, pack, unpack};
 ghost use Rattle.packed.specs.LentPaths.{path_of};
-ghost use Rattle.map_form.specs.Maps.{count_in, rules_in, sizes_in};
+ghost use Rattle.map_form.specs.Maps.{count_in, map_shape, rules_in, sizes_in};
 ghost use Rattle.map_form.specs.MapTest.{map_refusal, MapPassed};
 ghost use Rattle.map_rules.specs.RulePlaces.{rule_at, rule_meant, rule_parts};
 
 use area::Area;
-use map_form::rows::MapRows;
 use map_form::sizes::MapSizes;
 use map_form::{END_AT, END_KIND_AT, START_AT, SUBSPACE_AT, SUBSPACE_KIND_AT, VALUE_AT};
 use number::read_u64;
@@ -18,6 +17,7 @@ use packed::lent::LentPath;
 use range::Range;
 use sheet::front::COUNT_AT;
 use sheet::inner::path_part;
+use sheet::rows::Rows;
 use willow::{AreaSubspace, RangeEnd, Refusal};
 
 // A buffer that begins with a map, as its test said: the one form in which maps that are read go from call to call behind that test.
@@ -87,21 +87,17 @@ impl<'a> MapSheet<'a> {
         ensures some { IfSome result (λ k. (k ≡ i) × (i < count_in self.entry.bytes.now)) }
         ensures none { IfNone result (count_in self.entry.bytes.now ≤ i) }
     {
-        if i < self.count() as u64 {
-            Some(i as usize)
-        } else {
-            None
-        }
+        (i < self.count() as u64).then_some(i as usize)
     }
 
     // Its rows, in use or not.
-    fn rows(self) -> MapRows<'a>
+    fn rows(self) -> Rows<'a>
         ensures bytes { result.bytes.now ≡ self.entry.bytes.now }
-        ensures sizes { result.sizes ≡ sizes_in self.entry.bytes.now }
+        ensures shape { result.shape ≡ map_shape (sizes_in self.entry.bytes.now) }
     {
-        MapRows {
+        Rows {
             bytes: self.bytes,
-            sizes: self.sizes(),
+            shape: self.sizes().shape(),
         }
     }
 

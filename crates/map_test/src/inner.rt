@@ -2,7 +2,7 @@
 
 ghost use Rattle.std.specs.Prelude.{◌≡◌, ◌<◌, ◌≤◌, length, take};
 ghost use Rattle.sheet.specs.Rows.{row_at, rows_of};
-ghost use Rattle.map_form.specs.Maps.{map_head_size, map_shape};
+ghost use Rattle.map_form.specs.Maps.{map_head_size};
 ghost use Rattle.willow.specs.Lists.{every};
 ghost use Rattle.map_form.specs.MapTest.{head_fits, is_map, kind_fits, row_fits, rows_fit, sizes_fit};
 
@@ -12,6 +12,7 @@ use map_form::{END_AT, END_KIND_AT, MAP_FRONT, SUBSPACE_AT, SUBSPACE_KIND_AT};
 use number::read_u64;
 use sheet::front::COUNT_AT;
 use sheet::inner::cell_fits;
+use sheet::rows::Rows;
 
 // A kind that stands in a sheet: 0 with the number 0 beside it, or 1. It is a number there, and `kinds` reads what stands beside it.
 fn kind_fits(kind: u64, n: u64) -> bool
@@ -34,28 +35,28 @@ fn head_fits(head: &[u8]) -> bool
 
 // Row i: its head and its cell.
 #[tactic(auto, unfolding(map_form::specs::MapTest::row_fits))]
-fn row_fits(rows: MapRows, i: usize) -> bool
-    requires { i < rows.sizes.capacity }
-    ensures { result ≡ row_fits rows.entry.sizes.limits (row_at (map_shape rows.entry.sizes) rows.entry.bytes.now i) }
+fn row_fits(map: MapRows, i: usize) -> bool
+    requires { i < map.rows.shape.capacity }
+    ensures { result ≡ row_fits map.entry.limits (row_at map.entry.rows.shape map.entry.rows.bytes.now i) }
 {
-    head_fits(rows.head(i)) && cell_fits(rows.sizes.limits, rows.cell(i))
+    head_fits(map.rows.head(i)) && cell_fits(map.limits, map.rows.cell(i))
 }
 
 // The first n rows.
-fn used_fit(rows: MapRows, n: usize) -> bool
-    requires { n ≤ rows.sizes.capacity }
-    ensures { result ≡ every (row_fits rows.entry.sizes.limits) (take n (rows_of (map_shape rows.entry.sizes) rows.entry.bytes.now)) }
+fn used_fit(map: MapRows, n: usize) -> bool
+    requires { n ≤ map.rows.shape.capacity }
+    ensures { result ≡ every (row_fits map.entry.limits) (take n (rows_of map.entry.rows.shape map.entry.rows.bytes.now)) }
 {
-    (0..n).all(|i| row_fits(rows, i))
+    (0..n).all(|i| row_fits(map, i))
 }
 
 // The first n rows, and zeros in all others.
 #[tactic(auto, unfolding(map_form::specs::MapTest::rows_fit))]
-fn rows_fit(rows: MapRows, n: usize) -> bool
-    requires { n ≤ rows.sizes.capacity }
-    ensures { result ≡ rows_fit rows.entry.sizes.limits (map_shape rows.entry.sizes) n rows.entry.bytes.now }
+fn rows_fit(map: MapRows, n: usize) -> bool
+    requires { n ≤ map.rows.shape.capacity }
+    ensures { result ≡ rows_fit map.entry.limits map.entry.rows.shape n map.entry.rows.bytes.now }
 {
-    used_fit(rows, n) && rows.sizes.shape().unused_clear(rows.bytes, n)
+    used_fit(map, n) && map.rows.unused_clear(n)
 }
 
 // Sizes within the bounds, and no more rows in use than there are.
@@ -78,7 +79,16 @@ pub fn is_map(s: &[u8]) -> bool
     }
     let sizes = MapSizes::read(s);
     let n = read_u64(s, COUNT_AT);
-    sizes_fit(sizes, n)
-        && sizes.sheet_length() <= s.len()
-        && rows_fit(MapRows { bytes: s, sizes }, n as usize)
+    if !sizes_fit(sizes, n) {
+        return false;
+    }
+    if s.len() < sizes.sheet_length() {
+        return false;
+    }
+    let rows = Rows {
+        bytes: s,
+        shape: sizes.shape(),
+    };
+    let limits = sizes.limits;
+    rows_fit(MapRows { rows, limits }, n as usize)
 }

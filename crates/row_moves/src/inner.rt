@@ -1,4 +1,5 @@
-// Rows of a sheet written again at another place, and cleared. Each head and each cell is moved once.
+// Rows of a sheet written again at another place, and cleared. Each head and each cell is moved once. The bytes come beside their shape
+// and not as `Rows`: they are written, so that a struct that lends them would have to be made anew after each write.
 
 ghost use Rattle.std.specs.Prelude.{◌≡◌, ◌+◌, ◌-◌, ◌≤◌, drop, replicate, take};
 ghost use Rattle.number.specs.Overwriting.{overwrite};

@@ -4,4 +4,5 @@
 
 pub mod front;
 pub mod inner;
+pub mod rows;
 pub mod shape;

@@ -44,7 +44,8 @@ fn keep_row(
     k + 1
 }
 
-// The rows that the offer prunes taken out, and the freed ones cleared; answers how many are left.
+// The rows that the offer prunes taken out, and the freed ones cleared; answers how many are left. Each turn writes a row where the turns
+// before have found room, and hands on where the next goes.
 pub fn close_up(s: &mut [u8], sizes: StoreSizes, n: usize, offered: &LentEntry) -> usize
     requires { RowsReadable sizes.limits sizes.capacity n s.old }
     ensures value { result ≡ length (filter (stays_by (entry_of offered.now)) (take n (rows_of (store_shape (sizes_of sizes.limits sizes.capacity)) s.old))) }

@@ -1,5 +1,5 @@
-// A row put in: the rows behind its place move up, its head is written, and its path into its cell. A sheet that is
-// written comes with its sizes, as in `store_closing`.
+// A row put in: the rows behind its place move up, its head is written, and its path into its cell. A sheet that is written comes with
+// its sizes, as in `store_closing`: `StoreRows`, which lends its bytes, would have to be made anew after each write.
 
 ghost use Rattle.std.specs.Prelude.{[], ◌≡◌, ◌*◌, ◌+◌, ◌<◌, ◌≤◌, length};
 ghost use Rattle.willow.specs.Limits.{Accepted, max_capacity};

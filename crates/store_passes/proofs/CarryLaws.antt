@@ -30,7 +30,6 @@ use Rattle.store_rows.specs.HeldRows.{held_entries, held_entry}
 use Rattle.store_rows.proofs.RowEntryLaws.{cells_hold}
 use Rattle.store_passes.specs.Positions.{entries_at, Positions}
 use Rattle.store_rows.proofs.HeldLaws.{held_count, held_at, held_next, held_end}
-use Rattle.store_passes.proofs.LeftLaws.{used}
 
 -- POSITIONS. None; fewer of them; one more, which is written behind them.
 positions_none : (rows : List ℕ) → Positions rows 0 0
@@ -173,7 +172,7 @@ module _ (r : StoreRows) where
     turn_room a =
         let m : ℕ = r.sizes.limits.mcc in
         let asc = ascending_take PlaceBelow (i + 1) (held_entries r) ((apart_theorem.ascending (held_entries r)).0 a) in
-        let paths = all_take (λ x. length x.path ≤ m) (i + 1) (held_entries r) (paths_within r.sizes.limits (used r.sizes.limits r.sizes.capacity r.count r.bytes.now) (cells_hold _ _ _ _ r.readable)) in
+        let paths = all_take (λ x. length x.path ≤ m) (i + 1) (held_entries r) (paths_within r.sizes.limits _ (cells_hold _ _ _ _ r.readable)) in
         let short = apart_theorem.carried_short (take (i + 1) (held_entries r)) m asc paths in
         let l = ap length carried_next in
         let j = entries_length r rows k in

@@ -6,26 +6,17 @@ use mathlib.Core.Bool.{Bool, true, false, ◌&&◌}
 use mathlib.Core.List.{List, [], ◌∷◌}
 use native.Mathlib.Omega.{arith}
 use native.Mathlib.Decide.{dec_lt}
-use native.Mathlib.Numerals.{add-one}
 use lib.Dec.{eqb}
-use lib.ListN.{length, take, drop, get_or, length-drop, drop_of_length-le}
-use lib.Seq.{drop-cons, get_or-take, length-take-le}
+use lib.ListN.{length, drop, get_or, length-drop}
 use borrow.Author.Tests.{eq-eqb, ne_eqb, eqb-true, eqb-false}
 use Rattle.std.specs.Bool.{MatchBool}
 use Rattle.std.specs.List.{range_with_len, AllWithin, HoldsAt}
 use Rattle.std.proofs.lemmas.List.FromFn.{get_or-range_with_len, length-range_with_len}
-use Rattle.willow.specs.declared.Limits.{Limits}
 use Rattle.willow.specs.Entries.{Entry, compare_places}
 use Rattle.willow.specs.Orders.{is_less}
 use Rattle.willow.specs.Store.{payloads}
-use Rattle.sheet.specs.Cells.{cell_fits}
-use Rattle.sheet.specs.Rows.{Row, cell, zero_row, Room, rows_of, row_at}
-use Rattle.sheet.proofs.RowLaws.{fitting_rows}
 use Rattle.store_form.specs.Apart.{ascends}
-use Rattle.store_form.specs.Stores.{store_shape}
-use Rattle.willow.specs.Lists.{every}
 use Rattle.store_rows.specs.declared.rows.StoreRows.{StoreRows}
-use Rattle.store_rows.specs.EntryRows.{sizes_of}
 use Rattle.store_rows.specs.HeldRows.{held_entries, held_entry}
 use Rattle.store_rows.proofs.HeldLaws.{held_count, held_end, held_next}
 
@@ -54,47 +45,6 @@ sum_first a m rest h = go (eqb m (rest - a)) refl
     go : (b : Bool) → eqb m (rest - a) ≡ b → eqb (a + m) rest ≡ b
     go true e = let k = eqb-true m (rest - a) e in eq-eqb (a + m) rest (omega arith)
     go false e = ne_eqb (a + m) rest (λ k. eqb-false m (rest - a) e (omega arith))
-
--- The first n rows.
-abbrev pub used : Limits → ℕ → ℕ → List ℕ → List Row
-used L N n s = take n (rows_of (store_shape (sizes_of L N)) s)
-
-module _ (L : Limits) (N n : ℕ) (s : List ℕ) (room : Room (store_shape (sizes_of L N)) s) (count : n ≤ N) where
-  used_count : length (used L N n s) ≡ n
-  used_count =
-      let f = (fitting_rows (store_shape (sizes_of L N)) s room).count in
-      length-take-le n (rows_of (store_shape (sizes_of L N)) s) (omega arith)
-
-  -- WHAT IS LEFT: nothing behind the last, or row i and what is behind it.
-  used_end : (i : ℕ) → n ≤ i → drop i (used L N n s) ≡ []
-  used_end i h = let l = used_count in drop_of_length-le (used L N n s) {i = i} (omega arith)
-
-  module _ (i : ℕ) (h : i < n) where
-    used_at : get_or (used L N n s) i (zero_row (store_shape (sizes_of L N))) ≡ row_at (store_shape (sizes_of L N)) s i
-    used_at = get_or-take n (rows_of (store_shape (sizes_of L N)) s) i (zero_row (store_shape (sizes_of L N))) h
-
-    used_next : drop i (used L N n s) ≡ row_at (store_shape (sizes_of L N)) s i ∷ drop (i + 1) (used L N n s)
-    used_next =
-        let l = used_count in
-        drop-cons (used L N n s) i (zero_row (store_shape (sizes_of L N))) (omega arith) ∙ rw (used_at, add-one i)
-
-  -- THE CELLS: row i's, as it was cut out.
-  abbrev holds : Row → Bool
-  holds r = cell_fits L (cell r)
-
-  pub cells_end : (i : ℕ) → n ≤ i → every holds (drop i (used L N n s)) ≡ true
-  cells_end i h = rw (used_end i h)
-
-  module _ (i : ℕ) (h : i < n) where
-    module _ (c : List ℕ) (e : c ≡ cell (row_at (store_shape (sizes_of L N)) s i)) (b : Bool) (eb : b ≡ cell_fits L c) where
-      first_holds : holds (row_at (store_shape (sizes_of L N)) s i) ≡ b
-      first_holds = sym (eb ∙ ap (cell_fits L) e)
-
-      pub cells_next : b ≡ true → every holds (drop i (used L N n s)) ≡ every holds (drop (i + 1) (used L N n s))
-      cells_next k = rw (used_next i h, first_holds, k)
-
-      pub cells_stop : b ≡ false → every holds (drop i (used L N n s)) ≡ false
-      cells_stop k = rw (used_next i h, first_holds, k)
 
 module _ (r : StoreRows) where
   -- THE ORDER: the row before i, and row i.

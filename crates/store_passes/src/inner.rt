@@ -1,37 +1,14 @@
 // The passes over the rows of a store that its test is made of. They are not open to a caller.
 
-ghost use Rattle.std.specs.Prelude.{true, [], ◌≡◌, ◌<◌, ◌≤◌, eqb, length, take};
-ghost use Rattle.willow.specs.Limits.{Accepted, max_capacity};
-ghost use Rattle.willow.specs.Lists.{every};
+ghost use Rattle.std.specs.Prelude.{true, [], ◌≡◌, ◌<◌, ◌≤◌, eqb, length};
 ghost use Rattle.willow.specs.Store.{payloads};
-ghost use Rattle.sheet.specs.Cells.{cell_fits};
-ghost use Rattle.sheet.specs.Rows.{cell, Room, rows_of};
 ghost use Rattle.store_form.specs.Apart.{ascends, clear_from, covering, nearest_older};
-ghost use Rattle.store_form.specs.Stores.{store_shape};
-ghost use Rattle.store_rows.specs.EntryRows.{sizes_of};
 ghost use Rattle.store_rows.specs.HeldRows.{held_entries, held_entry};
 ghost use Rattle.store_passes.specs.Positions.{Positions, entries_at};
 
 use arrayvec::ArrayVec;
-use sheet::inner::cell_fits;
 use store_form::MAX_DEPTH;
 use store_rows::rows::StoreRows;
-use store_rows::sizes::StoreSizes;
-
-// The cells of the first n rows hold paths: what the rows of a store promise is found out here, so that they are bytes yet.
-// `(0..n).all(..)` in place of the loop was tried, and the proof did not close: that a record lies inside is known of a turn's number.
-pub fn cells_fit(s: &[u8], sizes: StoreSizes, n: usize) -> bool
-    requires { Accepted sizes.limits × (sizes.capacity ≤ max_capacity) × Room (store_shape (sizes_of sizes.limits sizes.capacity)) s.now × (n ≤ sizes.capacity) }
-    ensures { result ≡ every (λ x. cell_fits sizes.limits (cell x)) (take n (rows_of (store_shape (sizes_of sizes.limits sizes.capacity)) s.now)) }
-{
-    let shape = sizes.shape();
-    for i in 0..n {
-        if !cell_fits(sizes.limits, shape.cell(s, i)) {
-            return false;
-        }
-    }
-    true
-}
 
 // The rows ascend by place.
 pub fn rows_ascend(rows: StoreRows) -> bool
@@ -65,7 +42,8 @@ fn nearest_older(rows: StoreRows, carried: &[usize], i: usize) -> bool
     }
 }
 
-// None of the rows, which ascend, prunes another: the nearest that covers it is not newer.
+// None of the rows, which ascend, prunes another: the nearest that covers it is not newer. Each turn writes the rows that are
+// carried, which the turns before have found.
 pub fn rows_clear(rows: StoreRows) -> bool
     requires { ascends (held_entries rows) ≡ true }
     ensures { result ≡ clear_from [] (held_entries rows.entry) }

@@ -40,7 +40,7 @@ impl<'a> StoreRows<'a> {
         ensures size { length result.now ≡ store_head_size }
         ensures part { result.now ≡ head (held_row self.entry i) }
     {
-        self.sizes.shape().head(self.bytes, i)
+        self.rows().head(i)
     }
 
     // The head of row i: with the row's path it is the row's entry.
@@ -83,7 +83,7 @@ impl<'a> StoreRows<'a> {
         ensures bytes { result.bytes.now ≡ used_part (cell (held_row self.entry i)) }
         ensures path { path_of result ≡ (held_entry self.entry i).path }
     {
-        let bytes = path_part(self.sizes.shape().cell(self.bytes, i));
+        let bytes = path_part(self.rows().cell(i));
         LentPath {
             bytes,
             count: component_count(bytes),

@@ -12,8 +12,8 @@ use store_form::{STORE_FRONT, STORE_HEAD};
 use willow::Limits;
 
 // The limits of a store's paths, and its capacity N. That they are accepted is asked of the methods and no ghost field: they are read
-// before they are tested, and a second type for those that passed would say no more. It is not the type of a map's sizes, which are what
-// `map_layout` is of, as they were passed: a store's layout is of a namespace too, which plays no part here.
+// before they are tested. Where they passed, they go on with bytes that have room for them: `StoreRows` says both. It is not the type of
+// a map's sizes, which are what `map_layout` is of, as they were passed: a store's layout is of a namespace too, which plays no part here.
 #[derive(Clone, Copy)]
 pub struct StoreSizes {
     pub limits: Limits,

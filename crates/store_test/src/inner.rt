@@ -2,8 +2,6 @@
 #![tactic(auto, unfolding(store_form::specs::StoreTest::entries_fit, store_form::specs::StoreTest::rows_fit, store_form::specs::StoreTest::sizes_fit))]
 
 ghost use Rattle.std.specs.Prelude.{◌≡◌, ◌≤◌, false, IfNone, IfSome, true};
-ghost use Rattle.willow.specs.Limits.{Accepted, max_capacity};
-ghost use Rattle.sheet.specs.Rows.{Room};
 ghost use Rattle.store_form.specs.Stores.{store_shape};
 ghost use Rattle.store_form.specs.StoreTest.{entries_fit, is_store, rows_fit, sizes_fit};
 ghost use Rattle.store_rows.specs.EntryRows.{sizes_of};
@@ -11,7 +9,7 @@ ghost use Rattle.store_rows.specs.HeldRows.{held_entries, MadeOf, RowsOf};
 
 use sheet::front::COUNT_AT;
 use store_form::{HELD_AT, LET_GO_AT, STORE_FRONT};
-use store_passes::inner::{cells_fit, rows_ascend, rows_clear, sums_to};
+use store_passes::inner::{rows_ascend, rows_clear, sums_to};
 use store_rows::rows::StoreRows;
 use store_rows::sizes::StoreSizes;
 
@@ -22,28 +20,24 @@ fn entries_fit(rows: StoreRows, held: u64) -> bool
     rows_ascend(rows) && rows_clear(rows) && sums_to(rows, held)
 }
 
-// The first n rows, if they and all others are those of a store.
-fn tested_rows<'a>(s: &'a [u8], sizes: StoreSizes, n: usize, held: u64) -> Option<StoreRows<'a>>
-    requires { Accepted sizes.limits × (sizes.capacity ≤ max_capacity) × Room (store_shape (sizes_of sizes.limits sizes.capacity)) s.now × (n ≤ sizes.capacity) }
-    ensures fit { IfSome result (λ r. (rows_fit sizes.limits (store_shape (sizes_of sizes.limits sizes.capacity)) n held s.now ≡ true) × MadeOf r s.now sizes n) }
-    ensures unfit { IfNone result (rows_fit sizes.limits (store_shape (sizes_of sizes.limits sizes.capacity)) n held s.now ≡ false) }
+// The first n of all rows, whatever these hold, if they and the others are those of a store.
+fn tested_rows<'a>(all: StoreRows<'a>, n: usize, held: u64) -> Option<StoreRows<'a>>
+    requires { n ≤ all.sizes.capacity }
+    ensures fit { IfSome result (λ r. (rows_fit all.entry.sizes.limits (store_shape (sizes_of all.entry.sizes.limits all.entry.sizes.capacity)) n held all.entry.bytes.now ≡ true) × MadeOf r all.entry.bytes.now all.entry.sizes n) }
+    ensures unfit { IfNone result (rows_fit all.entry.sizes.limits (store_shape (sizes_of all.entry.sizes.limits all.entry.sizes.capacity)) n held all.entry.bytes.now ≡ false) }
 {
-    if !cells_fit(s, sizes, n) {
+    if !all.rows().cells_fit(all.sizes.limits, n) {
         return None;
     }
     let rows = StoreRows {
-        bytes: s,
-        sizes,
+        bytes: all.bytes,
+        sizes: all.sizes,
         count: n,
     };
     if !entries_fit(rows, held) {
         return None;
     }
-    if sizes.shape().unused_clear(s, n) {
-        Some(rows)
-    } else {
-        None
-    }
+    all.rows().unused_clear(n).then_some(rows)
 }
 
 // Sizes within the bounds, no more rows in use than there are, and totals that do not pass 2^64 - 1 together.
@@ -74,5 +68,10 @@ pub fn tested<'a>(s: &'a [u8]) -> Option<StoreRows<'a>>
     if s.len() < sizes.sheet_length() {
         return None;
     }
-    tested_rows(s, sizes, n, held)
+    let all = StoreRows {
+        bytes: s,
+        sizes,
+        count: 0,
+    };
+    tested_rows(all, n, held)
 }

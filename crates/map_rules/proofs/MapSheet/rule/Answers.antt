@@ -3,7 +3,7 @@ use mathlib.Core.Path.{◌≡◌, sym, ◌∙◌, ap}
 use lib.ListN.{length}
 use Rattle.willow.specs.Ranges.{end_of}
 use Rattle.sheet.specs.Rows.{head, row_at}
-use Rattle.map_form.specs.Maps.{map_shape, rule_in}
+use Rattle.map_form.specs.Maps.{rule_in}
 use Rattle.packed.proofs.PrefixLaws.{front}
 use Rattle.map_rules.specs.RulePlaces.{map_row, rule_parts}
 use Rattle.map_rules.proofs.RowReadLaws.{end_of_kind, rule_read_lem}
@@ -15,7 +15,7 @@ returns c =
     let a = c.args in
     let row = map_row a.self.bytes.now a.i in
     let same : c.head-head.result.now ≡ head row =
-    c.head-head.ensures.part ∙ (λ k. head (row_at (map_shape (c.rows.ensures.sizes k)) (c.rows.ensures.bytes k) a.i)) in
+    c.head-head.ensures.part ∙ (λ k. head (row_at (c.rows.ensures.shape k) (c.rows.ensures.bytes k) a.i)) in
     let at = rule_at_lem _ a.self.passed.tested _ c.requires in
     let path = c.rule_path.result in
     let counted : path.count ≡ length (rule_in row).area.path =

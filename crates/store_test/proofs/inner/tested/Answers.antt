@@ -3,7 +3,7 @@ use Rattle.std.proofs.Common.{◌≡◌, sym, ◌∙◌}
 use Rattle.store_form.specs.StoreTest.{is_store}
 use Rattle.store_form.proofs.TestedLaws.{SizesTested, passes}
 use Rattle.store_rows.specs.EntryRows.{sizes_of}
-use Rattle.store_test.proofs.PassLaws.{sizes_known, store_by, store_short, store_sizes, store_cut, store_rows, found_rows, found_none}
+use Rattle.store_test.proofs.PassLaws.{rows_room, sizes_known, store_by, store_short, store_sizes, store_cut, store_rows, found_rows, found_none}
 use Rattle.store_test.proofs.inner.tested.Goals as goal
 use Rattle.store_test.proofs.inner.tested.Goals.{After-read_u64-let_go, Else-not-sizes_fit}
 
@@ -34,10 +34,13 @@ returns-then-s-sheet_length-clause-no_store c =
     sym (by_read (goal.at.returns-then-s-sheet_length-clause-no_store c).After-read_u64-let_go)
     ∙ store_cut c.args.s.now _ _ _ _ _ c.if-s-lt-STORE_FRONT.false (sym c.sizes_fit.ensures ∙ c.if-not-sizes_fit.false) (rw c.sheet_length.ensures at c.if-s-sheet_length.true)
 
+pub invariant_of-all : goal.invariant_of-all
+invariant_of-all c =
+    let k = known (goal.at.invariant_of-all c).Else-not-sizes_fit in
+    record { readable = rows_room _ _ _ k.limits_accepted k.capacity_accepted (rw c.sheet_length.ensures at c.if-s-sheet_length.false) }
+
 pub tested_rows-requires : goal.tested_rows-requires
-tested_rows-requires c =
-    let k = known (goal.at.tested_rows-requires c).Else-not-sizes_fit in
-    (k.limits_accepted, k.capacity_accepted, rw c.sheet_length.ensures at c.if-s-sheet_length.false, k.count)
+tested_rows-requires c = (known (goal.at.tested_rows-requires c).Else-not-sizes_fit).count
 
 pub returns-clause-store : goal.returns-clause-store
 returns-clause-store c =

@@ -9,16 +9,13 @@ use Rattle.store_rows.proofs.rows.StoreRows.path.Goals.{After-path_part-bytes}
 
 -- the bytes that were cut out
 part_is : (c : After-path_part-bytes) → c.path_part-bytes.result.now ≡ used_part (cell (held_row c.args.self c.args.i))
-part_is c = cell_part _ _ _ _ _ c.args.self.readable c.requires _ (rw c.shape.ensures at c.cell.ensures) _ c.path_part-bytes.ensures
-
-pub shape-requires : goal.shape-requires
-shape-requires c = c.args.self.readable.limits_accepted
+part_is c = cell_part _ _ _ _ _ c.args.self.readable c.requires _ (rw (c.rows.ensures.bytes, c.rows.ensures.shape) at c.cell.ensures) _ c.path_part-bytes.ensures
 
 pub cell-requires : goal.cell-requires
-cell-requires c = let r = c.args.self.readable in rw c.shape.ensures (r.room, omega (arith, r.count, c.requires))
+cell-requires c = let k = c.args.self.readable.count in rw c.rows.ensures.shape (omega (arith, k, c.requires))
 
 pub path_part-bytes-requires : goal.path_part-bytes-requires
-path_part-bytes-requires c = cell_ready _ _ _ _ _ c.args.self.readable c.requires _ (rw c.shape.ensures at c.cell.ensures)
+path_part-bytes-requires c = cell_ready _ _ _ _ _ c.args.self.readable c.requires _ (rw (c.rows.ensures.bytes, c.rows.ensures.shape) at c.cell.ensures)
 
 pub component_count-requires : goal.component_count-requires
 component_count-requires c = path_packed _ _ _ _ _ c.args.self.readable c.requires _ (part_is (goal.at.component_count-requires c).After-path_part-bytes)

@@ -3,11 +3,11 @@ use Prim.Native.Nat.{◌+◌, ◌-◌, ◌*◌}
 use mathlib.Core.Path.{◌≡◌}
 use native.Mathlib.Nat.{mul-add}
 use native.Mathlib.Omega.{arith}
-use Rattle.sheet.proofs.shape.Shape.cells_behind.Goals as goal
+use Rattle.sheet.proofs.rows.Rows.cells_behind.Goals as goal
 
 pub returns : goal.returns
 returns c =
-    let z = c.args.self in
+    let z = c.args.self.shape in
     let n = c.args.n in
     let k : n + (z.capacity - n) ≡ z.capacity = omega arith in
     let parts = rw k at (mul-add z.cell_size n (z.capacity - n)) in
