@@ -43,6 +43,7 @@ pub fn put_lengths(lengths: &[u8], from: usize, out: &mut [u8], to: usize)
     ensures { out.new ≡ overwrite out.old to (accumulated_by from (lengths_in lengths.now)) }
 {
     let mut sum = from as u64;
+    // By places: where a length is read, its sum is written.
     for i in 0..lengths.len() / 8 {
         sum += number::read_u64(lengths, 8 * i);
         number::write_u64(out, to + 8 * i, sum);

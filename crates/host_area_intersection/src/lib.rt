@@ -46,7 +46,8 @@ fn given_area(whose: u64, area: Area) -> AreaAnswer
     }
 }
 
-// What there may not be.
+// What there may not be. For areas of interest it is the same (`host_area_of_interest`): one function for both would be told how a status
+// and how an area become an answer, and be no shorter.
 impl From<Result<Option<Met<Area>>, Refusal>> for AreaAnswer {
     ghost from_gives = { λ m a. a ≡ given_area (optional_outcome_by standing_of m) };
 

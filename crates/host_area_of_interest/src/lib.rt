@@ -57,7 +57,8 @@ fn given_interest(whose: u64, m: AreaOfInterest) -> InterestAnswer
     }
 }
 
-// What there may not be.
+// What there may not be. For areas it is the same (`host_area_intersection`): one function for both would be told how a status and how an
+// area become an answer, and be no shorter.
 impl From<Result<Option<Met<AreaOfInterest>>, Refusal>> for InterestAnswer {
     ghost from_gives = { λ m a. a ≡ given_interest (optional_outcome_by standing_of m) };
 

@@ -49,6 +49,7 @@ impl Marking {
         ensures { OnOk result (self.new.pending ≡ held_after self.old.pending (take n self.old.chunk)) }
     {
         let mut rest = &self.chunk[..n];
+        // By `while`: it takes a rest apart, and counts nothing.
         while !rest.is_empty() {
             let fed = self.pending.feed(rest, &mut self.room, &mut self.out);
             to.write_all(&self.out[..fed.written])?;
@@ -87,7 +88,8 @@ impl Marking {
     }
 }
 
-// The count of turns is there so that the loop is seen to end: no input uses it up.
+// The count of turns is there so that the loop is seen to end: no input uses it up. Crate `replay_cases` has such a loop of its own: the
+// two share little but the test of one error.
 fn main(rt: HostRuntime) {
     let mut from = rt.stdin();
     let to = rt.stdout();

@@ -26,6 +26,13 @@ pub const MAX_BYTES: usize = MAX_LINE / 2;
 
 pub const MAX_PACKED: usize = 8 + 8 * MAX_MCC as usize + MAX_MPL as usize;
 
+// A line, or a part of one: no more bytes than a line may have.
+#[derive(Clone, Copy)]
+pub struct Text<'a> {
+    pub bytes: &'a [u8],
+    ghost short: { length bytes.now ≤ max_line },
+}
+
 // What a line's path is made in: the lengths and the bytes of its components, and the path packed.
 #[derive(Drop)]
 pub struct Made {
@@ -69,12 +76,11 @@ fn written(n: u64, buffer: &[u8]) -> LentPath<'_>
 }
 
 // The path of a text, made by the rules of `from_slices`: 3 where it is no path.
-fn make_path<'a>(limits: Limits, text: &[u8], made: &'a mut Made) -> Result<LentPath<'a>, Refusal>
-    requires { length text.now ≤ max_line }
-    ensures ok { IfOk result (λ p. (path_refusal limits p.bytes.now p.count ≡ none) × (made_outcome limits (read_path text.entry.now) ≡ value (path_of p))) }
-    ensures err { IfErr result (λ r. made_outcome limits (read_path text.entry.now) ≡ refused r) }
+fn make_path<'a>(limits: Limits, text: Text, made: &'a mut Made) -> Result<LentPath<'a>, Refusal>
+    ensures ok { IfOk result (λ p. (path_refusal limits p.bytes.now p.count ≡ none) × (made_outcome limits (read_path text.entry.bytes.now) ≡ value (path_of p))) }
+    ensures err { IfErr result (λ r. made_outcome limits (read_path text.entry.bytes.now) ≡ refused r) }
 {
-    let read = keyread::inner::read_path(text, &mut made.lengths, &mut made.bytes);
+    let read = keyread::inner::read_path(text.bytes, &mut made.lengths, &mut made.bytes);
     let (k, n) = read.ok_or(Refusal::BadKind)?;
     let size = construction::from_slices(
         limits,
@@ -86,19 +92,18 @@ fn make_path<'a>(limits: Limits, text: &[u8], made: &'a mut Made) -> Result<Lent
 }
 
 // A line's question, put to the call that answers it: the greatest path, or the least above the path of the line's text.
-fn put_question(line: &[u8], room: &mut Room) -> Result<Option<u64>, Refusal>
-    requires { length line.now ≤ max_line }
-    ensures result_value { optional_outcome result ≡ written_length (packed_outcome (line_outcome line.now)) room.old.next }
-    ensures next_after { room.new.next ≡ written_buffer (packed_outcome (line_outcome line.now)) room.old.next }
+fn put_question(line: Text, room: &mut Room) -> Result<Option<u64>, Refusal>
+    ensures result_value { optional_outcome result ≡ written_length (packed_outcome (line_outcome line.entry.bytes.now)) room.old.next }
+    ensures next_after { room.new.next ≡ written_buffer (packed_outcome (line_outcome line.entry.bytes.now)) room.old.next }
 {
-    let (limits, question) = keyread::inner::read_line(line).ok_or(Refusal::BadKind)?;
+    let (limits, question) = keyread::inner::read_line(line.bytes).ok_or(Refusal::BadKind)?;
     match question {
         Question::Successor(text) => {
-            let path = make_path(limits, text, &mut room.made)?;
+            let path = make_path(limits, Text { bytes: text }, &mut room.made)?;
             least::successor(limits, path.bytes, path.count as u64, &mut room.next)
         }
         Question::NextGreater(text) => {
-            let path = make_path(limits, text, &mut room.made)?;
+            let path = make_path(limits, Text { bytes: text }, &mut room.made)?;
             least::greater_but_not_prefixed(limits, path.bytes, path.count as u64, &mut room.next)
         }
         Question::Greatest => greatest::new_max(limits, &mut room.next).map(Some),
@@ -106,12 +111,11 @@ fn put_question(line: &[u8], room: &mut Room) -> Result<Option<u64>, Refusal>
 }
 
 // A line's outcome, its path lent from the room.
-pub fn ask<'a>(line: &[u8], room: &'a mut Room) -> Result<Option<LentPath<'a>>, Refusal>
-    requires { length line.now ≤ max_line }
-    ensures { optional_outcome_by path_of result ≡ line_outcome line.entry.now }
+pub fn ask<'a>(line: Text, room: &'a mut Room) -> Result<Option<LentPath<'a>>, Refusal>
+    ensures { optional_outcome_by path_of result ≡ line_outcome line.entry.bytes.now }
 {
-    match put_question(line, room)? {
-        Some(size) => Ok(Some(written(size, &room.next))),
-        None => Ok(None),
-    }
+    let Some(size) = put_question(line, room)? else {
+        return Ok(None);
+    };
+    Ok(Some(written(size, &room.next)))
 }

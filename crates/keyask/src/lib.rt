@@ -1,5 +1,5 @@
 // Key lines, asked: from a line to the outcome of its question. The functions stand in module `inner` and are not open to a
-// caller: they require buffers that are long enough for every line and every path.
+// caller: a line comes to them as a `Text`, which is no longer than a line may be.
 #![tactic(auto)]
 
 pub mod inner;

@@ -7,7 +7,7 @@ ghost use Rattle.number.specs.Overwriting.{overwrite};
 ghost use Rattle.keyform.specs.Answering.{held_answer, kept, max_answer, printed_at_end};
 
 use arrayvec::ArrayVec;
-use keyask::inner::Room;
+use keyask::inner::{Room, Text};
 use keyform::{MAX_ANSWER, MAX_LINE};
 use std::marker::Model;
 use willow::Refusal;
@@ -81,7 +81,10 @@ impl Pending {
             out[at] = b'\n';
             return at + 1;
         };
-        keyline::inner::answer_line(line.as_slice(), room, out, to)
+        let line = Text {
+            bytes: line.as_slice(),
+        };
+        keyline::inner::answer_line(line, room, out, to)
     }
 
     // The rest of a line, which its newline ends. The place behind the answer.
@@ -103,6 +106,7 @@ impl Pending {
     {
         let mut at = 0;
         let mut rest = chunk;
+        // By `while`: it takes a rest apart, and counts nothing.
         while let Some(n) = rest.iter().position(|b| *b == b'\n') {
             if out.len() - at <= MAX_ANSWER {
                 return Fed {

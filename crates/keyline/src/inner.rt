@@ -1,13 +1,12 @@
-// Lines answered in lent buffers. Nothing here is open to a caller: the buffers must be long enough for every line, path and answer.
+// Lines answered in a lent buffer. Nothing here is open to a caller: the buffer must be long enough for the answer.
 
 ghost use Rattle.std.specs.Prelude.{◌≡◌, ◌+◌, ◌≤◌, length, take};
 ghost use Rattle.number.specs.Overwriting.{overwrite};
 ghost use Rattle.willow.specs.Answers.{optional_outcome_by};
 ghost use Rattle.packed.specs.LentPaths.{path_of};
 ghost use Rattle.keyform.specs.Answering.{answer_text, ended_answer, max_answer, outcome_text};
-ghost use Rattle.keyform.specs.Wording.{max_line};
 
-use keyask::inner::Room;
+use keyask::inner::{Room, Text};
 use keyform::MAX_LINE;
 use packed::lent::LentPath;
 use willow::Refusal;
@@ -26,10 +25,10 @@ fn put_found(found: Result<Option<LentPath>, Refusal>, out: &mut [u8], to: usize
 }
 
 // The answer to a line and a newline, from a place on: the place behind them.
-pub fn answer_line(line: &[u8], room: &mut Room, out: &mut [u8], to: usize) -> usize
-    requires { (length line.now ≤ max_line) × (to + max_answer + 1 ≤ length out.old) }
-    ensures value { result ≡ to + length (ended_answer line.now) }
-    ensures out_after { out.new ≡ overwrite out.old to (ended_answer line.now) }
+pub fn answer_line(line: Text, room: &mut Room, out: &mut [u8], to: usize) -> usize
+    requires { to + max_answer + 1 ≤ length out.old }
+    ensures value { result ≡ to + length (ended_answer line.entry.bytes.now) }
+    ensures out_after { out.new ≡ overwrite out.old to (ended_answer line.entry.bytes.now) }
 {
     let found = keyask::inner::ask(line, room);
     let at = put_found(found, out, to);
@@ -45,5 +44,5 @@ pub(crate) fn answer_any(line: &[u8], out: &mut [u8]) -> usize
     if MAX_LINE < line.len() {
         return keyshow::inner::put_refused(Refusal::BadKind, out, 0);
     }
-    answer_line(line, &mut Room::new(), out, 0) - 1
+    answer_line(Text { bytes: line }, &mut Room::new(), out, 0) - 1
 }

@@ -61,6 +61,7 @@ pub fn put_path(path: LentPath, out: &mut [u8], to: usize) -> usize
         return to + 2;
     }
     let mut at = put_component(path.component(0), out, to);
+    // By places: a lent path has no iterator over its components.
     for i in 1..k {
         out[at] = b'/';
         at = put_component(path.component(i), out, at + 1);

@@ -66,13 +66,11 @@ pub fn write_place(
     ensures result_value { optional_outcome result ≡ written_length (packed_outcome (path_or (placed (path_of path.entry) place))) out.old }
     ensures out_after { out.new ≡ written_buffer (packed_outcome (path_or (placed (path_of path.entry) place))) out.old }
 {
-    match place {
-        Some(p) => {
-            let kept = &path.component(p.component)[..p.bytes];
-            write_longer(path.prefix(p.component), kept, Some(p.last), out).map(Some)
-        }
-        None => Ok(None),
-    }
+    let Some(p) = place else {
+        return Ok(None);
+    };
+    let kept = &path.component(p.component)[..p.bytes];
+    write_longer(path.prefix(p.component), kept, Some(p.last), out).map(Some)
 }
 
 // The least valid path above a lent one: an empty component behind it, else the next greater path.

@@ -55,8 +55,8 @@ impl<'a> LentPath<'a> {
         inner::component(self.bytes, i)
     }
 
-    // Component i, if there is one. By an `if`, and so is `first`: with `then` the proof did not close, as nothing is known of what its
-    // closure gives.
+    // Component i, if there is one. By an `if`, and so is `first`: with `then` the proof did not close. What a closure computes by itself
+    // is known, as in `keyread::hex_value`; of one that calls a method of the path nothing is.
     pub fn get(self, i: u64) -> Option<&'a [u8]>
         ensures some { IfSome result (λ c. (i < length (path_of self.entry)) × (c.now ≡ slice_index_or (path_of self.entry) i [])) }
         ensures none { IfNone result (length (path_of self.entry) ≤ i) }
@@ -86,6 +86,7 @@ impl<'a> LentPath<'a> {
         ensures { result ≡ common_count (path_of self.entry) (path_of other.entry) }
     {
         let shorter = self.count.min(other.count);
+        // By places: a component is compared with the one at its place in the other path.
         for i in 0..shorter {
             if !component::equal(self.component(i), other.component(i)) {
                 return i;
@@ -159,6 +160,7 @@ impl<'a> Ord for LentPath<'a> {
 
     #[tactic(auto, using(crate::proofs::WalkLaws::counted, crate::proofs::WalkLaws::compare_decided, crate::proofs::WalkLaws::compare_passed, crate::proofs::WalkLaws::compare_over))]
     fn cmp(&self, other: &Self) -> Ordering {
+        // By places, as in `common`.
         for i in 0..self.count.min(other.count) {
             let order = component::compare(self.component(i), other.component(i));
             if order.is_ne() {

@@ -27,7 +27,7 @@ pub fn refusal_number(r: Refusal) -> u64
     r as u64
 }
 
-// The number by which an order is given.
+// The number by which an order is given. No `From`: an impl names a type of its own crate.
 pub fn order_number(o: Ordering) -> u64
     ensures { result ≡ order_number o }
 {

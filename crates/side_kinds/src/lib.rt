@@ -16,8 +16,9 @@ pub fn side_number(side: Side) -> u64
     side as u64
 }
 
-// Whether an end stands, and whose: as in `kinds`, over sides. One function for both would be told how a number is made of what stands
-// in an end, and be no shorter.
+// Whether an end stands, and whose: as in `kinds`, over sides. The kind is not one function with `kinds::end_kind`, since the definition
+// that it is held against, `end_kind` of `willow`, is of ends of numbers alone; one for both numbers would be told how a number is made of
+// what stands in an end, and be no shorter.
 pub fn end_side_kind(end: RangeEnd<Side>) -> u64
     ensures { result ≡ end_side_kind (end_of end) }
 {

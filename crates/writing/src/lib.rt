@@ -24,10 +24,10 @@ pub fn write_component(
     ensures out_after { out.new ≡ written_buffer (on_path limits b.now count (component_of i)) out.old }
 {
     let path = lend(limits, b, count)?;
-    match path.get(i) {
-        Some(component) => Ok(Some(write(&component, out)?)),
-        None => Ok(None),
-    }
+    let Some(component) = path.get(i) else {
+        return Ok(None);
+    };
+    write(&component, out).map(Some)
 }
 
 // The packed form of the prefix of n components written to the front of out; none if there are fewer; 15 if out is too short.
@@ -42,10 +42,10 @@ pub fn write_prefix(
     ensures out_after { out.new ≡ written_buffer (packed_outcome (on_path limits b.now count (prefix_of n))) out.old }
 {
     let path = lend(limits, b, count)?;
-    match path.first(n) {
-        Some(prefix) => Ok(Some(write(&prefix, out)?)),
-        None => Ok(None),
-    }
+    let Some(prefix) = path.first(n) else {
+        return Ok(None);
+    };
+    write(&prefix, out).map(Some)
 }
 
 // The packed form of the longest common prefix written to the front of out; 15 if out is too short.

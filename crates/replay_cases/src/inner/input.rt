@@ -47,7 +47,8 @@ fn take<P: Part>(to: &Stdout, bytes: &[u8], line: &mut Held, part: &mut Option<P
 
 // Replays each line of the input, and prints `unreadable` for one that gives none. At the input's end a line with no newline behind it
 // is whole, and after an error it is not. Where a signal came before a byte did, the read is made again. The count of reads is there so
-// that the loop is seen to end: no input uses it up.
+// that the loop is seen to end: no input uses it up. Program `key` has such a loop of its own: the two share little but the test of one
+// error.
 pub fn replay_lines<P: Part>(from: &mut Stdin, to: &Stdout) {
     let mut part: Option<P> = None;
     let mut chunk = [0u8; 65536];

@@ -8,7 +8,8 @@ use arrayvec::ArrayVec;
 
 pub type Buffer = ArrayVec<u8, 1024>;
 
-// The value of a hexadecimal digit. Small letters alone: `to_digit` would take capitals as well.
+// The value of a hexadecimal digit. Small letters alone: `to_digit` would take capitals as well. Not shared with `keyread::hex_value`,
+// which says what the digit of a key line is: this crate uses none of the theory.
 fn digit_value(b: u8) -> Option<u8>
     ensures { IfSome result (λ d. d < 16) }
 {

@@ -8,10 +8,10 @@ use Rattle.keyask.proofs.LineLaws.{line_sound}
 use Rattle.keyask.proofs.inner.ask.Goals as goal
 use Rattle.keyask.proofs.inner.ask.Goals.{After-put_question}
 
-lends : (c : After-put_question) → Lends (line_sound c.args.line.now).0 (line_outcome c.args.line.now) c.put_question.result c.put_question.new.room.next
+lends : (c : After-put_question) → Lends (line_sound c.args.line.bytes.now).0 (line_outcome c.args.line.bytes.now) c.put_question.result c.put_question.new.room.next
 lends c =
     let room : max_packed ≤ length c.args.room.now.next = omega arith in
-    wrote_found _ _ _ _ _ (line_sound c.args.line.now).1 room (record { answered = c.put_question.ensures.result_value; written = c.put_question.ensures.next_after })
+    wrote_found _ _ _ _ _ (line_sound c.args.line.bytes.now).1 room (record { answered = c.put_question.ensures.result_value; written = c.put_question.ensures.next_after })
 
 pub returns-in_err-size : goal.returns-in_err-size
 returns-in_err-size c =
@@ -26,14 +26,14 @@ written-requires c =
     let f = rw (c.in_ok-size.was, c.in-Some.is) at m in
     (f.0, f.1)
 
-pub returns-in-Some : goal.returns-in-Some
-returns-in-Some c =
-    let m = lends (goal.at.returns-in-Some c).After-put_question in
+pub returns : goal.returns
+returns c =
+    let m = lends (goal.at.returns c).After-put_question in
     let f = rw (c.in_ok-size.was, c.in-Some.is) at m in
     rw (c.written.ensures.bytes, c.written.ensures.count) (sym f.3)
 
-pub returns-in-None : goal.returns-in-None
-returns-in-None c =
-    let m = lends (goal.at.returns-in-None c).After-put_question in
-    let f = rw (c.in_ok-size.was, c.in-None.is) at m in
+pub returns-in_default : goal.returns-in_default
+returns-in_default c =
+    let m = lends (goal.at.returns-in_default c).After-put_question in
+    let f = rw (c.in_ok-size.was, c.in_default.is) at m in
     sym f

@@ -9,13 +9,13 @@ use Rattle.keyask.proofs.AskedLaws.{slices_read, made_path}
 use Rattle.keyask.proofs.inner.make_path.Goals as goal
 use Rattle.keyask.proofs.inner.make_path.Goals.{After-from_slices}
 
-lends : (c : After-from_slices) → Lends c.args.limits (made_outcome c.args.limits (read_path c.args.text.now)) (as_optional c.from_slices.result) c.from_slices.new.out
+lends : (c : After-from_slices) → Lends c.args.limits (made_outcome c.args.limits (read_path c.args.text.bytes.now)) (as_optional c.from_slices.result) c.from_slices.new.out
 lends c =
     let room : max_packed ≤ length c.args.made.now.packed = omega arith in
     let w : length c.args.made.now.bytes ≤ max_word = omega arith in
-    let h : PathRead (read_path c.args.text.now) c.args.made.now.lengths c.args.made.now.bytes (Some (c.in_ok-k.k, c.in_ok-k.n)) c.read_path-read.new.lengths c.read_path-read.new.bytes =
+    let h : PathRead (read_path c.args.text.bytes.now) c.args.made.now.lengths c.args.made.now.bytes (Some (c.in_ok-k.k, c.in_ok-k.n)) c.read_path-read.new.lengths c.read_path-read.new.bytes =
     rw c.in_ok-k.ensures.ok_part at c.read_path-read.ensures in
-    made_path c.args.limits c.args.text.now _ _ _ _ _ c.args.made.now.packed _ (slices_read _ _ _ _ _ _ _ h w) room c.from_slices.ensures.result_value c.from_slices.ensures.out_after
+    made_path c.args.limits c.args.text.bytes.now _ _ _ _ _ c.args.made.now.packed _ (slices_read _ _ _ _ _ _ _ h w) room c.from_slices.ensures.result_value c.from_slices.ensures.out_after
 
 pub returns-in_err-size-clause-err : goal.returns-in_err-size-clause-err
 returns-in_err-size-clause-err c =
