@@ -15,8 +15,8 @@ use Rattle.host_law.proofs.AnsweredKindLaws.{end_answered, subspace_answered}
 use Rattle.area_intersection.specs.Standing.{Whose, first, second, whose_number}
 use Rattle.path_range_intersection.specs.declared.Side.{Side}
 use Rattle.path_range_intersection.specs.declared.Side.TheVariants as side
-use Rattle.willow.specs.Ranges.{End, closed, endless}
-use Rattle.side_kinds.specs.SideKinds.{side_number, end_side_kind, end_side_number}
+use Rattle.willow.specs.Ranges.{End, closed, endless, end_kind}
+use Rattle.side_kinds.specs.SideKinds.{side_number, end_side_number}
 use Rattle.host_range.specs.RangeExports.{given_range}
 use Rattle.host_path_range_intersection.specs.PathRangeExports as paths
 use Rattle.host_area_intersection.specs.AreaExports.{given_area}
@@ -99,14 +99,14 @@ starts_apart side.First side.Second e = absurd (omega arith)
 starts_apart side.Second side.First e = absurd (omega arith)
 starts_apart side.Second side.Second e = refl
 
-ends_apart : (x y : End Side) → end_side_kind x ≡ end_side_kind y → end_side_number x ≡ end_side_number y → x ≡ y
+ends_apart : (x y : End Side) → end_kind x ≡ end_kind y → end_side_number x ≡ end_side_number y → x ≡ y
 ends_apart (closed a) (closed b) e f = ap closed (starts_apart a b f)
 ends_apart (closed a) endless e f = absurd (omega arith)
 ends_apart endless (closed b) e f = absurd (omega arith)
 ends_apart endless endless e f = refl
 
-open_end : (x : End Side) → (end_side_kind x ≡ 0) ↔ (x ≡ endless)
-open_end (closed a) = (λ e. absurd (omega arith), λ h. let z : ◌≡◌ {A = ℕ} 1 0 = ap end_side_kind h in absurd (omega arith))
+open_end : (x : End Side) → (end_kind x ≡ 0) ↔ (x ≡ endless)
+open_end (closed a) = (λ e. absurd (omega arith), λ h. let z : ◌≡◌ {A = ℕ} 1 0 = ap end_kind h in absurd (omega arith))
 open_end endless = (λ e. refl, λ h. refl)
 
 offer_answer : (a : Answer) → (given_offer a).answer ≡ offer_number a

@@ -5,7 +5,7 @@ use Rattle.std.specs.Prelude.{ℕ, ◌≡◌, ◌↔◌, false, length}
 use Rattle.std.proofs.Math.Option.{Option, none, some}
 use Rattle.willow.specs.declared.Refusal.{Refusal}
 use Rattle.willow.specs.Entries.{Entry}
-use Rattle.willow.specs.Ranges.{End, endless, Range}
+use Rattle.willow.specs.Ranges.{End, endless, Range, end_kind}
 use Rattle.willow.specs.Refusals.{refusal_number, Outcome, value}
 use Rattle.willow.specs.Store.{Answer, refused, taken, is_refused}
 use Rattle.convention.specs.Exports.{answered_status}
@@ -16,7 +16,7 @@ use Rattle.area_intersection.specs.Standing.{Standing, Whose, whose_number}
 use Rattle.area_of_interest.specs.Interests.{StandingInterest}
 use Rattle.path_range_intersection.specs.declared.Side.{Side}
 use Rattle.range_3d_intersection.specs.Sides3d.{Standing3d, Counts3d}
-use Rattle.side_kinds.specs.SideKinds.{side_number, end_side_kind, end_side_number}
+use Rattle.side_kinds.specs.SideKinds.{side_number, end_side_number}
 use Rattle.builder.specs.declared.Builder.{Builder}
 use Rattle.store_reading.specs.declared.StoreNumbers.{StoreNumbers}
 use Rattle.host_range.specs.RangeExports.{given_range}
@@ -69,10 +69,10 @@ pub record Answers : Type 0 where
       → ((given_interest (value s)).max_count ≡ s.max_count) × ((given_interest (value s)).max_size ≡ s.max_size)
   pub sides_start : (x : Range Side) → (paths.given_sides (value x)).start ≡ side_number x.start
   pub sides_end : (x : Range Side)
-      → ((paths.given_sides (value x)).end_kind ≡ end_side_kind x.end) × ((paths.given_sides (value x)).end ≡ end_side_number x.end)
+      → ((paths.given_sides (value x)).end_kind ≡ end_kind x.end) × ((paths.given_sides (value x)).end ≡ end_side_number x.end)
   pub starts_apart : (x y : Side) → side_number x ≡ side_number y → x ≡ y
-  pub ends_apart : (x y : End Side) → end_side_kind x ≡ end_side_kind y → end_side_number x ≡ end_side_number y → x ≡ y
-  pub open_end : (x : End Side) → (end_side_kind x ≡ 0) ↔ (x ≡ endless)
+  pub ends_apart : (x y : End Side) → end_kind x ≡ end_kind y → end_side_number x ≡ end_side_number y → x ≡ y
+  pub open_end : (x : End Side) → (end_kind x ≡ 0) ↔ (x ≡ endless)
   pub range3d_subspaces : (x : Standing3d)
       → MeansRange (ranges3d.given_sides (value x)).subspace_start (ranges3d.given_sides (value x)).subspace_end_kind
       (ranges3d.given_sides (value x)).subspace_end x.subspaces
@@ -81,7 +81,7 @@ pub record Answers : Type 0 where
       (ranges3d.given_sides (value x)).time_end x.times
   pub range3d_paths : (x : Standing3d)
       → ((ranges3d.given_sides (value x)).path_start ≡ side_number x.paths.start)
-      × ((ranges3d.given_sides (value x)).path_end_kind ≡ end_side_kind x.paths.end)
+      × ((ranges3d.given_sides (value x)).path_end_kind ≡ end_kind x.paths.end)
       × ((ranges3d.given_sides (value x)).path_end ≡ end_side_number x.paths.end)
   pub counts_subspaces : (x : Counts3d × ℕ)
       → MeansRange (given_counts (value x)).subspace_start (given_counts (value x)).subspace_end_kind (given_counts (value x)).subspace_end

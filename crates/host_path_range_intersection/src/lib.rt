@@ -42,7 +42,7 @@ impl From<Result<Option<Range<Side>>, Refusal>> for SidesAnswer {
             Ok(sides) => SidesAnswer {
                 status: 0,
                 start: side_kinds::side_number(sides.start),
-                end_kind: side_kinds::end_side_kind(sides.end),
+                end_kind: kinds::end_kind(sides.end),
                 end: side_kinds::end_side_number(sides.end),
             },
         }

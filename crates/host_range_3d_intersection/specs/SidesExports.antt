@@ -5,7 +5,7 @@ use Rattle.willow.specs.Ranges.{end_kind, end_value}
 use Rattle.willow.specs.Refusals.{refusal_number, Outcome, refused, absent, value}
 use Rattle.convention.specs.Exports.{answered_status, none_status}
 use Rattle.range_3d_intersection.specs.Sides3d.{Standing3d}
-use Rattle.side_kinds.specs.SideKinds.{side_number, end_side_kind, end_side_number}
+use Rattle.side_kinds.specs.SideKinds.{side_number, end_side_number}
 use Rattle.host_range_3d_intersection.specs.declared.Range3dAnswer.{Range3dAnswer}
 
 abbrev pub sides_answer : Standing3d → Range3dAnswer
@@ -15,7 +15,7 @@ sides_answer x = record {
   subspace_end_kind = end_kind x.subspaces.end;
   subspace_end = end_value x.subspaces.end;
   path_start = side_number x.paths.start;
-  path_end_kind = end_side_kind x.paths.end;
+  path_end_kind = end_kind x.paths.end;
   path_end = end_side_number x.paths.end;
   time_start = x.times.start;
   time_end_kind = end_kind x.times.end;

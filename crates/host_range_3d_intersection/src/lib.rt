@@ -50,7 +50,7 @@ impl From<Result<Option<Range3d<Side>>, Refusal>> for Range3dAnswer {
                 subspace_end_kind: kinds::end_kind(x.subspaces.end),
                 subspace_end: kinds::end_value(x.subspaces.end),
                 path_start: side_kinds::side_number(x.paths.start),
-                path_end_kind: side_kinds::end_side_kind(x.paths.end),
+                path_end_kind: kinds::end_kind(x.paths.end),
                 path_end: side_kinds::end_side_number(x.paths.end),
                 time_start: x.times.start,
                 time_end_kind: kinds::end_kind(x.times.end),

@@ -47,11 +47,11 @@ pub fn read_subspace(kind: u64, n: u64) -> Option<AreaSubspace>
     of_kind(kind, AreaSubspace::Any, AreaSubspace::Id(n))
 }
 
-// In an answer: the kind of an end, and its number.
-pub fn end_kind(end: RangeEnd<u64>) -> u64
+// In an answer: the kind of an end, whatever it is an end of.
+pub fn end_kind<T: Copy>(end: RangeEnd<T>) -> u64
     ensures { result ≡ end_kind (end_of end) }
 {
-    u64::from(end != RangeEnd::Open)
+    u64::from(matches!(end, RangeEnd::Closed(_)))
 }
 
 // The number of an end: 0 beside kind 0.

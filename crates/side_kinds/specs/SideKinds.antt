@@ -9,11 +9,7 @@ abbrev pub side_number : Side → ℕ
 side_number First = 0
 side_number Second = 1
 
--- "Kinds: end 0 open, 1 closed", and whose end it is; 0 beside kind 0.
-abbrev pub end_side_kind : End Side → ℕ
-end_side_kind (closed a) = 1
-end_side_kind endless = 0
-
+-- Whose end it is, beside the end's kind (`end_kind`); 0 beside kind 0.
 abbrev pub end_side_number : End Side → ℕ
 end_side_number (closed a) = side_number a
 end_side_number endless = 0

@@ -1,10 +1,10 @@
-// Whose start and whose end an intersection of ranges of paths has, as a host gets them: 0 the first's, 1 the second's, and beside an
-// end its kind.
+// Whose start and whose end an intersection of ranges of paths has, as a host gets them: 0 the first's, 1 the second's. The kind that
+// stands beside an end is that of any end (`kinds::end_kind`).
 #![tactic(auto)]
 
 ghost use Rattle.std.specs.Prelude.{◌≡◌};
 ghost use Rattle.willow.specs.Ranges.{end_of};
-ghost use Rattle.side_kinds.specs.SideKinds.{end_side_kind, end_side_number, side_number};
+ghost use Rattle.side_kinds.specs.SideKinds.{end_side_number, side_number};
 
 use path_range_intersection::Side;
 use willow::RangeEnd;
@@ -16,18 +16,8 @@ pub fn side_number(side: Side) -> u64
     side as u64
 }
 
-// Whether an end stands, and whose: as in `kinds`, over sides. The kind is not one function with `kinds::end_kind`, since the definition
-// that it is held against, `end_kind` of `willow`, is of ends of numbers alone; one for both numbers would be told how a number is made of
-// what stands in an end, and be no shorter.
-pub fn end_side_kind(end: RangeEnd<Side>) -> u64
-    ensures { result ≡ end_side_kind (end_of end) }
-{
-    match end {
-        RangeEnd::Closed(_) => 1,
-        RangeEnd::Open => 0,
-    }
-}
-
+// Whose end stands: 0 beside kind 0, as in `kinds::end_value`. One function for both would be told how a number is made of what stands
+// in an end, and be no shorter.
 pub fn end_side_number(end: RangeEnd<Side>) -> u64
     ensures { result ≡ end_side_number (end_of end) }
 {

@@ -22,8 +22,8 @@ pub record Range (A : Type 0) : Type 0 where
 
 -- The numbers of an end towards a host and inside a sheet. "Kinds: end 0 open, 1 closed"; "a number .. beside kind 0 is not
 -- read; in an answer and inside a sheet the number there is 0".
-abbrev pub end_kind : End ℕ → ℕ
-end_kind (closed n) = 1
+abbrev pub end_kind : {A : Type 0} → End A → ℕ
+end_kind (closed x) = 1
 end_kind endless = 0
 
 abbrev pub end_value : End ℕ → ℕ
