@@ -1,10 +1,12 @@
 // Questions on entries whose paths were tested.
 #![tactic(auto, unfolding(willow::specs::Entries::prunes, willow::specs::Orders::compare_numbers))]
 
-ghost use Rattle.std.specs.Prelude.{◌≡◌};
+ghost use Rattle.std.specs.Prelude.{◌≡◌, ℕ};
 ghost use Rattle.std.specs.Ordering.{as_partial_cmp, eq_by_cmp};
 ghost use Rattle.std.proofs.Common.{refl};
 ghost use Rattle.willow.specs.Entries.{compare_places, prunes};
+ghost use Rattle.packed.specs.LentPaths.{path_of};
+ghost use Rattle.entry.specs.Heads.{entry_at};
 ghost use Rattle.entry.specs.LentEntries.{compare_lent, entry_of};
 ghost use Rattle.entry.specs.EntryOrders.{lent_equivalence, lent_partial_equivalence, lent_partial_order, lent_total};
 
@@ -22,9 +24,10 @@ impl<'a> LentEntry<'a> {
             && self.path.is_prefix_of(other.path)
     }
 
-    // By place: subspace, then path.
+    // By place: subspace, then path, whatever the namespaces.
     pub fn compare_places(&self, other: &LentEntry) -> Ordering
-        ensures { result ≡ compare_places (entry_of self.now) (entry_of other.now) }
+        ensures places { result ≡ compare_places (entry_of self.now) (entry_of other.now) }
+        ensures of_any_namespaces { (m n : ℕ) → result ≡ compare_places (entry_at m self.now.head (path_of self.now.path)) (entry_at n other.now.head (path_of other.now.path)) }
     {
         (self.head.subspace, self.path).cmp(&(other.head.subspace, other.path))
     }

@@ -1,7 +1,7 @@
 -- Admission of a path with slices behind it: its bytes and components are those of both, and none of the path's own is too
 -- long, so that each test of the whole is one of the slices.
 use Prim.Native.Nat.{ℕ, zero, suc, ◌+◌, ◌-◌, ◌*◌, ◌/◌, ◌≤◌, ◌<◌}
-use mathlib.Core.Path.{◌≡◌, refl, ◌∙◌, ap}
+use mathlib.Core.Path.{◌≡◌, refl, sym, ◌∙◌, ap}
 use mathlib.Core.List.{List, [], ◌∷◌, ◌++◌, map}
 use mathlib.Core.Option.{none}
 use mathlib.Core.Bool.{Bool, true, false, not, ◌||◌}
@@ -12,21 +12,20 @@ use lib.ListN.{length, drop, length-append, length-take}
 use borrow.Author.Tests.{lt-ltb, le-ltb}
 use Rattle.willow.specs.declared.Limits.{Limits}
 use Rattle.willow.specs.declared.Refusal.TheVariants.{BadLengths, PathTooLong, TooManyComponents, ComponentTooLong}
-use Rattle.willow.specs.Answers.{path_in, path_refusal}
+use Rattle.willow.specs.Answers.{path_in}
 use Rattle.willow.specs.Construction.{admitted, lengths_in, lengths_fit, cut, append_slice}
 use Rattle.willow.specs.Limits.{Accepted}
 use Rattle.willow.specs.Lists.{All, any}
 use Rattle.willow.specs.Numbers.{number_at}
-use Rattle.willow.specs.Packed.{components_from, packed_count, steps_fit, unpack}
+use Rattle.willow.specs.Packed.{components_from, packed_count, steps_fit, unpack, well_formed}
 use Rattle.willow.specs.Paths.{Path, path_length}
 use Rattle.willow.specs.Refusals.{refused, value}
-use Rattle.willow.proofs.AnswerLaws.{path_passed}
 use Rattle.willow.proofs.Bools.{neither_true}
 use Rattle.willow.proofs.ConstructionLaws.{Sliced, fit_means, none_too_long, slices_count, slices_cut, slices_length}
 use Rattle.willow.proofs.ListLaws.{all_take}
 use Rattle.willow.proofs.PackedLaws.{components_count, end_passed, step_passed, tested}
 use Rattle.willow.proofs.ValidLaws.{path_length_append, path_length_take}
-use Rattle.extension.specs.Extending.{Extendable}
+use Rattle.extension.specs.Extending.{Admitted, Extendable}
 
 -- A path within the limits, whatever bytes its components have.
 pub record Within (L : Limits) (p : Path) : Type 0 where
@@ -43,12 +42,11 @@ steps_read L b base (suc r) at from h =
     let size = length-take (number_at b at - from) (drop (base + from) b) in
     ((omega arith, ih.0), omega arith)
 
--- what passed the tests of lent paths
-pub lent_within : (L : Limits) (b : List ℕ) (k : ℕ) → path_refusal L b k ≡ none → Within L (path_in b k)
+-- what is well formed, up to a count that it has
+pub formed_within : (L : Limits) (b : List ℕ) (k : ℕ) → well_formed L b ≡ true → k ≤ packed_count b → Within L (path_in b k)
 unfolding path_in unpack
-lent_within L b k e =
-    let h = (path_passed L b k e).1 in
-    let t = (tested L b).0 h.formed in
+formed_within L b k formed few_lem =
+    let t = (tested L b).0 formed in
     let n : ℕ = packed_count b in
     let p : Path = components_from b (8 + 8 * n) n 8 0 in
     let r = steps_read L b (8 + 8 * n) n 8 0 t.steps in
@@ -137,9 +135,18 @@ module _ (L : Limits) (p : Path) (lengths bytes : List ℕ) where
             let narrow = whole_wide L p lengths bytes f e ∙ not-true (any (λ n. ltb L.mcl n) (lengths_in lengths)) h in
             rw (e, w.bytes_in, fits, w.count_in_lem, counts, narrow)
 
-        -- and then it is within the bounds
-        pub extendable : Accepted L → Extendable p lengths bytes
-        extendable a =
+        -- and then it is within the limits
+        pub judge_admitted : not (any (λ n. ltb L.mcl n) (lengths_in lengths)) ≡ true → Admitted L p lengths bytes
+        judge_admitted h =
             let s = f.short in
             let n = f.few in
-            record { fit = e; few = omega arith; short = omega arith }
+            record { made = sym (judge_fine h); fit = e; few = omega arith; short = omega arith }
+
+-- .. which are within the bounds, where they are accepted
+pub extendable : (L : Limits) (p : Path) (lengths bytes : List ℕ) → Admitted L p lengths bytes → Accepted L → Extendable p lengths bytes
+extendable L p lengths bytes h a =
+    let s = h.short in
+    let n = h.few in
+    let c = a.mcc_within in
+    let m = a.mpl_within in
+    record { fit = h.fit; few = omega arith; short = omega arith }

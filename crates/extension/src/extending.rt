@@ -25,20 +25,7 @@ impl<'a, 'b> Extended<'a, 'b> {
         requires { path_refusal limits path.bytes.now path.count ≡ none }
         ensures { extended_outcome result ≡ append_slice limits (path_of path.entry) lengths.entry.now bytes.entry.now }
     {
-        if !inner::lengths_fit(lengths, bytes) {
-            return Err(Refusal::BadLengths);
-        }
-        let room = limits.mpl - path.path_length() as u64;
-        if room < bytes.len() as u64 {
-            return Err(Refusal::PathTooLong);
-        }
-        let places = limits.mcc - path.component_count() as u64;
-        if places < (lengths.len() / 8) as u64 {
-            return Err(Refusal::TooManyComponents);
-        }
-        if !inner::lengths_within(limits.mcl, lengths) {
-            return Err(Refusal::ComponentTooLong);
-        }
+        inner::admit(limits, path, lengths, bytes)?;
         Ok(Extended {
             path,
             lengths,

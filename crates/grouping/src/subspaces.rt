@@ -1,3 +1,5 @@
 // The subspaces of areas (grouping/area.rs, `AreaSubspace`).
 
-pub use subspace::{compare, equals_id, includes, includes_area_subspace, intersection, is_any};
+pub use subspace::{
+    agree, compare, equals_id, includes, includes_area_subspace, intersection, is_any,
+};

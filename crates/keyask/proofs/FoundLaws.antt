@@ -106,7 +106,7 @@ wrote_found L (value p) (Ok (Some n)) before behind s room w =
     let e : n ≡ length (pack p) = count_same n (length (pack p)) h.0 in
     let t : take n behind ≡ pack p = rw h.1 (take_at (pack p) (drop (length (pack p)) before) n (sym e)) in
     let l = ap length h.1 ∙ length-append (pack p) (drop (length (pack p)) before) in
-    (omega arith, rw t f.packed, rw (t, f.count) f.passes, rw (t, f.count, f.read_back) refl)
+    (omega arith, rw t f.packed, rw (t, f.count) f.passes, rw (t, f.count, f.read_back) refl, rw (t, f.count, f.read_back) refl, rw (t, f.count, f.read_back) refl)
 
 -- .. by a call that never says none
 pub always_some : (c : Result ℕ Refusal) → optional_outcome (as_optional c) ≡ outcome c

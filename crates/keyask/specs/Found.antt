@@ -7,7 +7,7 @@ use Rattle.willow.specs.declared.Refusal.TheVariants.{BadKind}
 use Rattle.willow.specs.Answers.{optional_outcome, packed_outcome, path_in, path_refusal, written_buffer, written_length}
 use Rattle.willow.specs.Construction.{admitted}
 use Rattle.willow.specs.Limits.{max_mcc, max_mpl, Accepted}
-use Rattle.willow.specs.Packed.{Packed, packed_count}
+use Rattle.willow.specs.Packed.{pack, Packed, packed_count}
 use Rattle.willow.specs.Paths.{Path, Valid}
 use Rattle.willow.specs.Refusals.{Outcome, refused, absent, value}
 use Rattle.construction.specs.Making.{under_limits}
@@ -36,13 +36,16 @@ Sound L (refused r) = Unit {0}
 Sound L absent = Unit {0}
 Sound L (value p) = Accepted L × Valid L p
 
--- What such a call has written, as it is lent from the buffer: as many bytes as it says are a packed path that passes the tests.
+-- What such a call has written, as it is lent from the buffer: as many bytes as it says are a packed path that passes the tests, and
+-- nothing besides it, so that the count in them is that of all its components.
 abbrev pub Lends : Limits → Outcome Path → Result (code.Option ℕ) Refusal → List ℕ → Type 0
 Lends L o (Err r) buffer = o ≡ refused r
 Lends L o (Ok None) buffer = o ≡ absent
 Lends L o (Ok (Some n)) buffer =
     (n ≤ length buffer) × Packed (take n buffer) × (path_refusal L (take n buffer) (packed_count (take n buffer)) ≡ none)
     × (o ≡ value (path_in (take n buffer) (packed_count (take n buffer))))
+    × (take n buffer ≡ pack (path_in (take n buffer) (packed_count (take n buffer))))
+    × (packed_count (take n buffer) ≡ length (path_in (take n buffer) (packed_count (take n buffer))))
 
 -- A path that was read is made by the rules of `from_slices`; what was not read gets 3.
 abbrev pub made_outcome : Limits → Option Path → Outcome Path

@@ -1,10 +1,10 @@
 // A key line's question, put to the calls that answer it. The room is lent by the caller, so that a program that answers many lines
 // clears none of it.
 
-ghost use Rattle.std.specs.Prelude.{◌≡◌, ◌≤◌, IfErr, IfOk, length, take};
+ghost use Rattle.std.specs.Prelude.{◌≡◌, ◌≤◌, IfErr, IfOk, IfSome, length, take};
 ghost use Rattle.std.proofs.Math.Option.{none};
 ghost use Rattle.willow.specs.Answers.{optional_outcome, optional_outcome_by, packed_outcome, path_refusal, written_buffer, written_length};
-ghost use Rattle.willow.specs.Packed.{Packed, packed_count};
+ghost use Rattle.willow.specs.Packed.{pack, Packed, packed_count};
 ghost use Rattle.willow.specs.Refusals.{refused, value};
 ghost use Rattle.packed.specs.LentPaths.{path_of};
 ghost use Rattle.keyform.specs.Answering.{line_outcome};
@@ -105,10 +105,13 @@ fn put_question(line: &[u8], room: &mut Room) -> Result<Option<u64>, Refusal>
     }
 }
 
-// A line's outcome, its path lent from the room.
+// A line's outcome, its path lent from the room: the part lent is that path's packed form and no more, with the count of all its
+// components.
 pub fn ask<'a>(line: &[u8], room: &'a mut Room) -> Result<Option<LentPath<'a>>, Refusal>
     requires { length line.now ≤ max_line }
-    ensures { optional_outcome_by path_of result ≡ line_outcome line.entry.now }
+    ensures outcome { optional_outcome_by path_of result ≡ line_outcome line.entry.now }
+    ensures packed { IfOk result (λ o. IfSome o (λ p. p.bytes.now ≡ pack (path_of p))) }
+    ensures counted { IfOk result (λ o. IfSome o (λ p. p.count ≡ length (path_of p))) }
 {
     match put_question(line, room)? {
         Some(size) => Ok(Some(written(size, &room.next))),

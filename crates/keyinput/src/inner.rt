@@ -13,7 +13,7 @@ use std::marker::Model;
 use willow::Refusal;
 
 // What has come of a line: its bytes, or, where more came than a line may have, no more than that.
-#[derive(Drop)]
+#[derive(Clone, Drop)]
 pub struct Pending {
     line: Option<ArrayVec<u8, MAX_LINE>>,
 }

@@ -8,8 +8,9 @@ ghost use Rattle.willow.specs.Answers.{if_any};
 ghost use Rattle.willow.specs.Areas.{subspace_from, subspace_kind, subspace_value};
 ghost use Rattle.willow.specs.Kinds.{of_kind};
 ghost use Rattle.willow.specs.Ranges.{end_from, end_kind, end_of, end_value};
+ghost use Rattle.willow.specs.Refusals.{value};
 ghost use Rattle.range.specs.NumberRanges.{range_of};
-ghost use Rattle.kinds.specs.Kinds.{range_from};
+ghost use Rattle.kinds.specs.Kinds.{of_kinds, range_from};
 
 use range::Range;
 use willow::{AreaSubspace, RangeEnd};
@@ -25,16 +26,18 @@ fn of_kind<T: Copy>(kind: u64, zero: T, one: T) -> Option<T>
     }
 }
 
-// An end of a range.
+// An end of a range. None is refusal 3, here and in the two below.
 pub fn read_end(kind: u64, n: u64) -> Option<RangeEnd<u64>>
-    ensures { if_any end_of result ≡ end_from kind n }
+    ensures reading { if_any end_of result ≡ end_from kind n }
+    ensures outcome { of_kinds (if_any end_of result) value ≡ of_kinds (end_from kind n) value }
 {
     of_kind(kind, RangeEnd::Open, RangeEnd::Closed(n))
 }
 
 // A range: its start, the kind of its end, and its end.
 pub fn read_range(start: u64, kind: u64, n: u64) -> Option<Range<u64>>
-    ensures { if_any range_of result ≡ range_from start kind n }
+    ensures reading { if_any range_of result ≡ range_from start kind n }
+    ensures outcome { of_kinds (if_any range_of result) value ≡ of_kinds (range_from start kind n) value }
 {
     let end = read_end(kind, n)?;
     Some(Range::new(start, end))
@@ -42,7 +45,8 @@ pub fn read_range(start: u64, kind: u64, n: u64) -> Option<Range<u64>>
 
 // The subspaces of an area.
 pub fn read_subspace(kind: u64, n: u64) -> Option<AreaSubspace>
-    ensures { if_any (λ s. s) result ≡ subspace_from kind n }
+    ensures reading { if_any (λ s. s) result ≡ subspace_from kind n }
+    ensures outcome { of_kinds (if_any (λ s. s) result) value ≡ of_kinds (subspace_from kind n) value }
 {
     of_kind(kind, AreaSubspace::Any, AreaSubspace::Id(n))
 }

@@ -35,11 +35,11 @@ pub fn rule_path<'a>(sheet: &'a [u8], i: u64) -> &'a [u8]
     ensures { result.now ≡ bytes_or (rule_path sheet.now i) }
 {
     let Ok(map) = lend(sheet) else {
-        return &[];
+        return &sheet[..0];
     };
     match map.place(i) {
         Some(k) => map.rule_path(k).bytes,
-        None => &[],
+        None => &sheet[..0],
     }
 }
 

@@ -1,3 +1,4 @@
 pub mod OverwritingLaws
 pub mod RecordLaws
 pub mod LibraryLaws
+pub mod FillingLaws

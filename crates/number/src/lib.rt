@@ -22,12 +22,15 @@ pub fn write_u64(s: &mut [u8], at: usize, x: u64)
     put(s, at, &x.to_le_bytes());
 }
 
-// src written over s from a place on.
+// src written over s from a place on. By a loop over places: `copy_from_slice` becomes a call of the C library's `memmove`, which archives
+// for C then need from outside, and which short writes pay for (docs/DESIGN-PASS.md).
 pub fn put(s: &mut [u8], at: usize, src: &[u8])
     requires { at + length src.now ≤ length s.old }
     ensures { s.new ≡ overwrite s.old at src.now }
 {
-    s[at..at + src.len()].copy_from_slice(src);
+    for i in 0..src.len() {
+        s[at + i] = src[i];
+    }
 }
 
 // n bytes written again at another place: none is lost where the two overlap.

@@ -69,7 +69,7 @@ pub fn component<'a>(limits: Limits, b: &'a [u8], count: u64, i: u64) -> &'a [u8
     ensures { result.now ≡ bytes_or (on_path limits b.now count (component_of i)) }
 {
     match lend(limits, b, count) {
-        Ok(path) => path.get(i).unwrap_or(&[]),
-        Err(_) => &[],
+        Ok(path) => path.get(i).unwrap_or(&b[..0]),
+        Err(_) => &b[..0],
     }
 }

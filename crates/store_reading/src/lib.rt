@@ -56,7 +56,7 @@ pub fn entry_path<'a>(sheet: &'a [u8], i: u64) -> &'a [u8]
 {
     match inner::find(sheet, i) {
         Ok(Some(held)) => held.path.bytes,
-        _ => &[],
+        _ => &sheet[..0],
     }
 }
 

@@ -3,7 +3,7 @@
 #![tactic(auto, unfolding(willow::specs::Orders::compare_numbers))]
 
 ghost use Rattle.std.specs.Prelude.{◌≡◌};
-ghost use Rattle.willow.specs.Answers.{if_any};
+ghost use Rattle.willow.specs.Answers.{if_any, outcome_if_any};
 ghost use Rattle.willow.specs.Areas.{compare_subspaces, includes_area_subspace, includes_subspace, is_any, is_subspace, subspace_intersection, subspaces_agree};
 
 use std::cmp::Ordering;
@@ -52,7 +52,8 @@ pub fn equals_id(subspace: AreaSubspace, id: u64) -> bool
 
 // Those that are in both, none where there are none.
 pub fn intersection(subspace: AreaSubspace, other: AreaSubspace) -> Option<AreaSubspace>
-    ensures { if_any (λ s. s) result ≡ subspace_intersection subspace other }
+    ensures met { if_any (λ s. s) result ≡ subspace_intersection subspace other }
+    ensures outcome { outcome_if_any (if_any (λ s. s) result) ≡ outcome_if_any (subspace_intersection subspace other) }
 {
     match (subspace, other) {
         (AreaSubspace::Any, _) => Some(other),

@@ -11,7 +11,7 @@ use std::{slice, str};
 
 // The arguments of a case, those of each kind in their order: numbers, buffers, digests, and the length of the output buffer. Those
 // that its form does not have are 0 or empty.
-#[derive(Drop)]
+#[derive(Clone, Drop)]
 pub struct Case {
     pub n: [u64; 21],
     pub b: [Buffer; 4],

@@ -13,10 +13,10 @@ lends c =
     let room : max_packed ≤ length c.args.room.now.next = omega arith in
     wrote_found _ _ _ _ _ (line_sound c.args.line.now).1 room (record { answered = c.put_question.ensures.result_value; written = c.put_question.ensures.next_after })
 
-pub returns-in_err-size : goal.returns-in_err-size
-returns-in_err-size c =
+pub returns-in_err-size-clause-outcome : goal.returns-in_err-size-clause-outcome
+returns-in_err-size-clause-outcome c =
     let p = err_from_is_err_and c.from_residual.result c.from_residual.ensures.1 in
-    let m = lends (goal.at.returns-in_err-size c).After-put_question in
+    let m = lends (goal.at.returns-in_err-size-clause-outcome c).After-put_question in
     let f = rw c.in_err-size.was at m in
     rw (f, p.1, p.2) refl
 
@@ -30,10 +30,10 @@ pub returns-in-Some : goal.returns-in-Some
 returns-in-Some c =
     let m = lends (goal.at.returns-in-Some c).After-put_question in
     let f = rw (c.in_ok-size.was, c.in-Some.is) at m in
-    rw (c.written.ensures.bytes, c.written.ensures.count) (sym f.3)
+    rw (c.written.ensures.bytes, c.written.ensures.count) record { outcome = sym f.3; packed = f.4; counted = f.5 }
 
 pub returns-in-None : goal.returns-in-None
 returns-in-None c =
     let m = lends (goal.at.returns-in-None c).After-put_question in
     let f = rw (c.in_ok-size.was, c.in-None.is) at m in
-    sym f
+    record { outcome = sym f; packed = tt; counted = tt }

@@ -5,10 +5,10 @@ use Rattle.keyline.proofs.inner.answer_line.Goals as goal
 use Rattle.keyline.proofs.inner.answer_line.Goals.{After-put_found-at}
 
 ended : (c : After-put_found-at) → Ended c.args.line.now c.args.out.now c.args.to c.put_found-at.new.out c.put_found-at.result
-ended c = line_ended _ _ _ _ _ _ c.ask-found.ensures c.put_found-at.ensures.value c.put_found-at.ensures.out_after c.requires.1
+ended c = line_ended _ _ _ _ _ _ c.ask-found.ensures.outcome c.put_found-at.ensures.value c.put_found-at.ensures.out_after c.requires.1
 
 pub put_found-at-requires : goal.put_found-at-requires
-put_found-at-requires c = found_room _ _ _ _ c.ask-found.ensures c.requires.1
+put_found-at-requires c = found_room _ _ _ _ c.ask-found.ensures.outcome c.requires.1
 
 pub bounds-out-at : goal.bounds-out-at
 bounds-out-at c = (ended (goal.at.bounds-out-at c).After-put_found-at).room

@@ -1,35 +1,10 @@
--- Each return is a test of the whole path, which is one of the slices, since the path itself is within the limits.
-use mathlib.Core.Path.{sym, ◌∙◌}
-use native.Mathlib.Omega.{arith}
-use Rattle.packed.specs.LentPaths.{path_of}
+-- What the tests refuse is the outcome's refusal; what they admit is its path, within the bounds since the limits are.
 use Rattle.willow.proofs.AnswerLaws.{path_passed}
-use Rattle.extension.proofs.AdmissionLaws.{Within, lent_within, judge_lengths, judge_long, judge_many, judge_wide, judge_fine, extendable}
+use Rattle.extension.proofs.AdmissionLaws.{extendable}
 use Rattle.extension.proofs.extended.Extended.admit.Goals as goal
-use Rattle.extension.proofs.extended.Extended.admit.Goals.{Start}
 
-known : (c : Start) → Within c.args.limits (path_of c.args.path)
-known c = lent_within c.args.limits c.args.path.bytes.now c.args.path.count c.requires
-
-pub returns-then-not-lengths_fit : goal.returns-then-not-lengths_fit
-returns-then-not-lengths_fit c = judge_lengths _ _ _ _ (sym c.lengths_fit.ensures ∙ c.if-not-lengths_fit.true)
-
-pub overflow_sub-room : goal.overflow_sub-room
-overflow_sub-room c = let f = (known (goal.at.overflow_sub-room c).Start).short in let e = c.path_length.ensures in omega arith
-
-pub returns-then-room-bytes : goal.returns-then-room-bytes
-returns-then-room-bytes c = judge_long _ _ _ _ (known (goal.at.returns-then-room-bytes c).Start) (sym c.lengths_fit.ensures ∙ c.if-not-lengths_fit.false) _ c.path_length.ensures c.if-room-bytes.true
-
-pub overflow_sub-places : goal.overflow_sub-places
-overflow_sub-places c = let f = (known (goal.at.overflow_sub-places c).Start).few in let e = c.component_count.ensures in omega arith
-
-pub returns-then-places-lengths : goal.returns-then-places-lengths
-returns-then-places-lengths c = judge_many _ _ _ _ (known (goal.at.returns-then-places-lengths c).Start) (sym c.lengths_fit.ensures ∙ c.if-not-lengths_fit.false) _ c.path_length.ensures c.if-room-bytes.false _ c.component_count.ensures c.if-places-lengths.true
-
-pub returns-then-not-lengths_within : goal.returns-then-not-lengths_within
-returns-then-not-lengths_within c = judge_wide _ _ _ _ (known (goal.at.returns-then-not-lengths_within c).Start) (sym c.lengths_fit.ensures ∙ c.if-not-lengths_fit.false) _ c.path_length.ensures c.if-room-bytes.false _ c.component_count.ensures c.if-places-lengths.false (sym c.lengths_within.ensures ∙ c.if-not-lengths_within.true)
+pub admit-requires : goal.admit-requires
+admit-requires c = (path_passed _ _ _ c.requires).1.formed
 
 pub invariant_of-result : goal.invariant_of-result
-invariant_of-result c = record { extendable = extendable _ _ _ _ (known (goal.at.invariant_of-result c).Start) (sym c.lengths_fit.ensures ∙ c.if-not-lengths_fit.false) _ c.path_length.ensures c.if-room-bytes.false _ c.component_count.ensures c.if-places-lengths.false (path_passed _ _ _ c.requires).0 }
-
-pub returns : goal.returns
-returns c = judge_fine _ _ _ _ (known (goal.at.returns c).Start) (sym c.lengths_fit.ensures ∙ c.if-not-lengths_fit.false) _ c.path_length.ensures c.if-room-bytes.false _ c.component_count.ensures c.if-places-lengths.false (sym c.lengths_within.ensures ∙ c.if-not-lengths_within.false)
+invariant_of-result c = record { extendable = extendable _ _ _ _ c.in_ok-admit.ensures.admitted (path_passed _ _ _ c.requires).0 }
