@@ -28,11 +28,12 @@ pub struct Builder {
     pub appended: u64,
 }
 
-// Why an append or a build is refused, and the builder that it took, handed back.
+// The builder that an append or a build took, handed back, and why it is refused. The builder stands first, where `Ok` has its own: else
+// each of its numbers is moved in parts, which makes an append slower (docs/DESIGN-PASS.md, "What it costs").
 #[derive(Clone, Copy)]
 pub struct Rejected {
-    pub refusal: Refusal,
     pub builder: Builder,
+    pub refusal: Refusal,
 }
 
 impl Builder {
@@ -88,8 +89,8 @@ impl Builder {
         ensures out_after { out.new ≡ by_refusal (append_refusal self c.now out.old) out.old (grown_buffer self c.now out.old) }
     {
         self.append_test(c, out).map_err(|refusal| Rejected {
-            refusal,
             builder: self,
+            refusal,
         })?;
         inner::put_next(self.count, self.appended, c, out);
         self.appended += 1;
@@ -103,8 +104,8 @@ impl Builder {
         ensures state_after { built_state result ≡ kept_state (build_refusal self out.now) self }
     {
         self.build_test(out).map_err(|refusal| Rejected {
-            refusal,
             builder: self,
+            refusal,
         })?;
         Ok(8 + 8 * self.count + self.length)
     }

@@ -9,6 +9,7 @@
 
 ghost use Rattle.std.specs.Prelude.{[], false, length, Ok, OnOk, take, true, ◌≡◌, ◌≤◌};
 ghost use Rattle.keyform.specs.Answering.{held_after, kept};
+ghost use Rattle.keyinput.specs.Held.{held_in};
 ghost use Rattle.key.specs.Brought.{brought_in};
 
 use keyask::inner::Room;
@@ -32,7 +33,7 @@ struct Marking {
 impl Marking {
     // Nothing has come.
     fn new() -> Marking
-        ensures { result.pending ≡ kept [] }
+        ensures { held_in result.pending ≡ kept [] }
     {
         Marking {
             pending: Pending::new(),
@@ -46,7 +47,7 @@ impl Marking {
     // a write fails all of them are taken.
     fn answer_chunk(&mut self, to: &Stdout, n: usize) -> io::Result<()>
         requires { n ≤ length self.old.chunk }
-        ensures { OnOk result (self.new.pending ≡ held_after self.old.pending (take n self.old.chunk)) }
+        ensures { OnOk result (held_in self.new.pending ≡ held_after (held_in self.old.pending) (take n self.old.chunk)) }
     {
         let mut rest = &self.chunk[..n];
         while !rest.is_empty() {
@@ -66,7 +67,7 @@ impl Marking {
     // What a read brought: `got` bytes at the front of the chunk, none where the input has ended, or an error where it failed. Whether
     // there is more to read.
     fn answer_read(&mut self, to: &Stdout, got: io::Result<usize>) -> bool
-        ensures leaves { result ≡ true → self.new.pending ≡ held_after self.old.pending (brought_in got self.old.chunk) }
+        ensures leaves { result ≡ true → held_in self.new.pending ≡ held_after (held_in self.old.pending) (brought_in got self.old.chunk) }
         ensures more_value { got ≡ Ok 0 → result ≡ false }
     {
         match got {

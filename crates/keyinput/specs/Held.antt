@@ -1,23 +1,17 @@
 -- What the functions that answer an input hold and write, in the words of crate `keyform`.
-use Rattle.std.specs.Prelude.{ℕ, ◌+◌, ◌≤◌, List, [], ◌∷◌, ◌⊎◌, ◌≡◌, Option, None, Some, IfSome, length, take}
-use Rattle.arrayvec.specs.ArrayVec.{ArrayVec}
+use Rattle.std.specs.Prelude.{ℕ, ◌+◌, ◌≤◌, List, [], ◌∷◌, ◌⊎◌, ◌≡◌, Option, None, Some, length, take}
 use Rattle.number.specs.Overwriting.{overwrite}
 use Rattle.keyform.specs.Answering.{max_answer, Held, kept, overlong, longer, held_after, printed_by}
-use Rattle.keyform.specs.Wording.{max_line}
 use Rattle.keyinput.specs.declared.inner.Fed.{Fed}
-use Rattle.keyinput.specs.declared.inner.Pending.TheInside.{Inside}
+use Rattle.keyinput.specs.declared.inner.Pending.{Pending}
 
--- What is held of a line: its bytes, or that it is too long.
-abbrev pub held_as : Option (ArrayVec ℕ) → Held
-held_as None = overlong
-held_as (Some v) = kept v.items
+-- What is held of a line: so many bytes of the buffer, or that it is too long.
+abbrev pub held_as : List ℕ → Option ℕ → Held
+held_as bytes None = overlong
+held_as bytes (Some n) = kept (take n bytes)
 
-abbrev pub held_in : Inside → Held
-held_in p = held_as p.line
-
--- There are no more bytes than a line may have. The vector has room for no more, but that is known of it only where it is asked.
-abbrev pub Within : Inside → Type 0
-Within p = IfSome p.line (λ v. length v.items ≤ max_line)
+abbrev pub held_in : Pending → Held
+held_in p = held_as p.bytes p.held
 
 -- What is held of a line when bytes of it have come, none of them its newline.
 abbrev pub longer_by : Held → List ℕ → Held

@@ -11,7 +11,7 @@ use std::{slice, str};
 
 // The arguments of a case, those of each kind in their order: numbers, buffers, digests, and the length of the output buffer. Those
 // that its form does not have are 0 or empty.
-#[derive(Clone, Drop)]
+#[derive(Clone, Copy)]
 pub struct Case {
     pub n: [u64; 21],
     pub b: [Buffer; 4],
@@ -65,7 +65,7 @@ impl<'a> Line<'a> {
         }
         let mut c = Case {
             n: [0; 21],
-            b: [Buffer::new(), Buffer::new(), Buffer::new(), Buffer::new()],
+            b: [Buffer::new(); 4],
             d: [[0; 32]; 2],
             room: 0,
         };

@@ -20,5 +20,5 @@ overflow_add-result c = let r = place (goal.at.overflow_add-result c).After-put_
 
 pub returns-in_default-clause-out_after : goal.returns-in_default-clause-out_after
 returns-in_default-clause-out_after c =
-    rw (← c.self.view_is, c.in_default.is)
+    rw c.in_default.is
     (newline_written (refused_text BadKind) c.args.out.now _ _ _ c.put_refused-at.ensures.value c.put_refused-at.ensures.out_after (refused_bound BadKind) c.requires)

@@ -1,11 +1,12 @@
 -- The newline that is found ends a line; where none is found, the rest is only held.
 use Rattle.std.proofs.Common.{◌≡◌, ◌<◌, ◌++◌, ◌∷◌, [], ℕ, length, take, take_all, arith, rules, slice_index_or}
 use Rattle.keyform.specs.Texts.{newline}
+use Rattle.keyinput.specs.Held.{held_in}
 use Rattle.keyinput.proofs.HeldLaws.{before_found, feed_start, feed_again, line_taken, stopped_over}
 use Rattle.keyinput.proofs.inner.Pending.feed.Goals as goal
 
 pub loop-n-init : goal.loop-n-init
-loop-n-init c = ([], feed_start c.args.self.now c.args.chunk.now c.args.out.now)
+loop-n-init c = ([], feed_start (held_in c.args.self.now) c.args.chunk.now c.args.out.now)
 
 pub loop-n-preserved : goal.loop-n-preserved
 loop-n-preserved c =
